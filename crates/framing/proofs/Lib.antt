@@ -1,0 +1,3 @@
+pub mod Judged
+pub mod Walks
+mod Zeros

@@ -1,0 +1,3 @@
+pub mod Header
+pub mod Judging
+pub mod Fragments
