@@ -1,3 +1,4 @@
+pub mod Coming
 pub mod Judged
 pub mod Walks
 mod Zeros

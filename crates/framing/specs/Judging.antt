@@ -70,6 +70,10 @@ pub data Verdict : Type 0 where
   lawful : Verdict
   torn : (question place : ℕ) → Verdict
 
+abbrev pub is-lawful : Verdict → Bool
+is-lawful lawful = true
+is-lawful (torn question place) = false
+
 -- A judgment: the headers judged, a refused one included, and the verdict.
 pub record Judgment : Type 0 where
   pub judged : List Header

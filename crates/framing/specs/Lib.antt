@@ -1,3 +1,4 @@
 pub mod Header
 pub mod Judging
 pub mod Fragments
+pub mod Giving

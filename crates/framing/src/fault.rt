@@ -25,5 +25,5 @@ pub enum FrameFault {
 #[derive(Clone, Copy)]
 pub struct Torn {
     pub fault: FrameFault,
-    pub at: u8,
+    pub at: usize,
 }

@@ -1,14 +1,24 @@
+ghost use mathlib.Core.Path.{_≡_};
+ghost use lib.ListN.{length};
+ghost use Rattle.std.specs.Vec.{made};
+ghost use Rattle.std.specs.Joined.{joined};
+ghost use Rattle.framing.specs.Fragments.{fragments, rendered};
+ghost use Rattle.framing.specs.Giving.{answer, asked, coming, Gives};
 use crate::fault::Torn;
+use crate::frame::Frame;
+use crate::header::FragmentHeader;
+use crate::header::PADDING;
+use crate::judging::judge;
 
 /// One fragment of a frame, with the place of its header, counted from 1.
 #[derive(Clone, Copy)]
 pub enum Fragment<'a> {
     /// A part of a packet, and whether the packet ends with it.
-    Body { at: u8, body: &'a [u8], last: bool },
+    Body { at: usize, body: &'a [u8], last: bool },
     /// The single byte at the frame's end that a packet's end left.
-    Notional { at: u8 },
+    Notional { at: usize },
     /// The rest of the frame is empty.
-    Padding { at: u8 },
+    Padding { at: usize },
 }
 
 /// Why there are no fragments to give.
@@ -18,4 +28,53 @@ pub enum FragmentsFault {
     NotAFrame,
     /// The frame is torn.
     Torn(Torn),
+}
+
+/// The fragments of one frame, given one at a time.
+#[derive(Clone, Copy)]
+pub struct Fragments<'a> {
+    bytes: &'a [u8],
+    /// Where the next header stands, counted from 0; the frame's length where none is left.
+    at: usize,
+}
+
+impl<'a> Fragments<'a> {
+    /// The fragments of the frame that is handed in, from the first on.
+    pub fn of(bytes: &'a [u8]) -> Result<Fragments<'a>, FragmentsFault>
+        ensures asks { λ r. ⌜ answer r ≡ asked (now (bytes .entry)) ⌝ }
+        ensures gives { λ r. ⌜ made r (λ f. coming f ≡ fragments (now (bytes .entry))) ⌝ }
+    {
+        if bytes.len() != 122 {
+            return Err(FragmentsFault::NotAFrame);
+        }
+        let mut frame = Frame { bytes: [0; 122] };
+        frame.bytes.copy_from_slice(bytes);
+        if let Err(torn) = judge(&frame, None, 0) {
+            return Err(FragmentsFault::Torn(torn));
+        }
+        Ok(Fragments { bytes, at: 0 })
+    }
+
+    /// The next fragment, as a part of the frame, or nothing after the last.
+    pub fn next(&mut self) -> Option<Fragment<'a>>
+        ensures { λ r. ⌜ Gives (now (self .entry)) r (now (self .exit)) ⌝ }
+    {
+        let bytes = self.bytes;
+        if self.at >= bytes.len() {
+            return None;
+        }
+        let header = FragmentHeader::from_byte(bytes[self.at]);
+        let at = self.at + 1;
+        let end = at + (header.count as usize).min(bytes.len() - at);
+        self.at = end;
+        match header.count {
+            PADDING => Some(Fragment::Padding { at }),
+            0 => Some(Fragment::Notional { at }),
+            _ => Some(Fragment::Body {
+                at,
+                body: &bytes[at..end],
+                last: header.last,
+            }),
+        }
+    }
 }

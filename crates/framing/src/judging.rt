@@ -109,7 +109,7 @@ pub fn judge(frame: &Frame, gathered: Option<u16>, width: u8) -> Result<(), Torn
         let byte = frame.bytes[at];
         let following = &frame.bytes[at + 1..122];
         if let Some(fault) = header_fault(byte, at + 1, following, gathered, width) {
-            return Err(Torn { fault, at: at as u8 + 1 });
+            return Err(Torn { fault, at: at + 1 });
         }
         at += 1 + FragmentHeader::from_byte(byte).count as usize;
     }

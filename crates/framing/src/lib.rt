@@ -1,7 +1,7 @@
 //! Frames of the mobile broadcast: 122 bytes, a row of fragments.
 pub mod fault;
+pub mod fragments;
 pub mod frame;
 pub mod header;
-pub mod slot;
 pub mod judging;
-pub mod fragments;
+pub mod slot;
