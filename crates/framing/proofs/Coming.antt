@@ -34,7 +34,7 @@ pub next-coming : (frame : List ℕ) (at m : ℕ) → at < length frame → m �
 next-coming frame at m here clipped =
     ap (map fragment-of) (next-header frame at here)
     ∙ ap (λ r. fragment-of (record { place = at + 1; byte = getD frame at 0; following = drop (at + 1) frame }) ∷ r)
-      (stops-at-end frame (at + 1) (count-of (getD frame at 0)) m (λ h. omega arith) (λ h. omega arith) (omega arith))
+    (stops-at-end frame (at + 1) (count-of (getD frame at 0)) m (λ h. omega arith) (λ h. omega arith) (omega arith))
 
 -- the fragment by its count
 pub padding-is : (place byte : ℕ) (rest : List ℕ) → count-of byte ≡ 127 → fragment-of (record { place = place; byte = byte; following = rest }) ≡ padding place

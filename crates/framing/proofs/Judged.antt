@@ -24,7 +24,7 @@ pub judged-at : (width : ℕ) (gathered : Option ℕ) (frame : List ℕ) (at : �
     → answer ≡ first-no (questions width gathered (header-at at frame))
     → judgment-of width gathered (headers-from (at + 1) 0 (drop at frame)) .verdict
     ≡ after-first answer (header-at at frame)
-      (judgment-of width gathered (headers-from (at + (1 + count-of (getD frame at 0)) + 1) 0 (drop (at + (1 + count-of (getD frame at 0))) frame))) .verdict
+    (judgment-of width gathered (headers-from (at + (1 + count-of (getD frame at 0)) + 1) 0 (drop (at + (1 + count-of (getD frame at 0))) frame))) .verdict
 judged-at width gathered frame at answer whole here asked =
     let n : ℕ = count-of (getD frame at 0) in
     let inside : at < length frame = omega arith in
@@ -32,7 +32,7 @@ judged-at width gathered frame at answer whole here asked =
     let first : List ℕ → Header = λ r. record { place = at + 1; byte = getD frame at 0; following = r } in
     ap (λ hs. judgment-of width gathered hs .verdict) (next-header frame at inside)
     ∙ ap (λ r. after-first (first-no (questions width gathered (first r))) (first r) (judgment-of width gathered (next (at + 1 + n))) .verdict)
-      (sym (rest-whole frame (at + 1) whole))
+    (sym (rest-whole frame (at + 1) whole))
     ∙ ap (λ k. after-first (first-no (questions width gathered (header-at at frame))) (header-at at frame) (judgment-of width gathered (next k)) .verdict) (omega arith)
     ∙ ap (λ a. after-first a (header-at at frame) (judgment-of width gathered (next (at + (1 + n)))) .verdict) (sym asked)
 

@@ -18,11 +18,11 @@ past-body place (suc body) (b ∷ rest) =
 -- the header that stands at an index, and then those behind its body
 pub next-header : (frame : List ℕ) (at : ℕ) → at < length frame → headers-from (at + 1) 0 (drop at frame)
     ≡ record { place = at + 1; byte = getD frame at 0; following = drop (at + 1) frame }
-      ∷ headers-from (at + 1 + count-of (getD frame at 0) + 1) 0 (drop (at + 1 + count-of (getD frame at 0)) frame)
+    ∷ headers-from (at + 1 + count-of (getD frame at 0) + 1) 0 (drop (at + 1 + count-of (getD frame at 0)) frame)
 next-header frame at here =
     let n : ℕ = count-of (getD frame at 0) in
     let first : Header = record { place = at + 1; byte = getD frame at 0; following = drop (at + 1) frame } in
     ap (λ r. headers-from (at + 1) 0 r) (drop-more frame at 0 here)
     ∙ ap (λ hs. first ∷ hs) (past-body (at + 1 + 1) n (drop (at + 1) frame)
-      ∙ ap (λ r. headers-from (at + 1 + 1 + n) 0 r) (drop-drop n (at + 1) frame)
-      ∙ ap (λ p. headers-from p 0 (drop (at + 1 + n) frame)) (omega arith))
+    ∙ ap (λ r. headers-from (at + 1 + 1 + n) 0 r) (drop-drop n (at + 1) frame)
+    ∙ ap (λ p. headers-from p 0 (drop (at + 1 + n) frame)) (omega arith))

@@ -23,10 +23,13 @@ or-is-zero a b = go (cases-eq a 0) (cases-eq b 0)
   where
     sum : bitOr a b + bitAnd a b ≡ a + b
     sum = or-add-and a b
+
     left : bitAnd a b ≤ a
     left = and-le-l a b
+
     right : bitAnd a b ≤ b
     right = and-le-r a b
+
     go : (a ≡ 0) ⊎ (a ≡ 0 → ⊥) → (b ≡ 0) ⊎ (b ≡ 0 → ⊥) → eqb (bitOr a b) 0 ≡ (eqb a 0 && eqb b 0)
     go (inl p) (inl q) = eq-eqb (bitOr a b) 0 (omega (arith, sum)) ∙ sym (ap (λ t. t && eqb b 0) (eq-eqb a 0 p) ∙ eq-eqb b 0 q)
     go (inl p) (inr q) = ne-eqb (bitOr a b) 0 (λ z. q (omega (arith, sum, left, right))) ∙ sym (ap (λ t. t && eqb b 0) (eq-eqb a 0 p) ∙ ne-eqb b 0 q)

@@ -63,7 +63,7 @@ abbrev pub questions : (width : ℕ) → Option ℕ → Header → List Question
 questions width gathered h =
     ask 11 (leb (count-of (h .byte)) 121 || eqb (count-of (h .byte)) 127)
     ∷ cond (eqb (count-of (h .byte)) 127) (padding-questions gathered h)
-      (cond (eqb (count-of (h .byte)) 0) (notional-questions h) (body-questions width gathered h))
+    (cond (eqb (count-of (h .byte)) 0) (notional-questions h) (body-questions width gathered h))
 
 -- What comes of judging: lawful, or torn, with the question's number and the place of the header.
 pub data Verdict : Type 0 where

@@ -14,11 +14,19 @@ use crate::judging::judge;
 #[derive(Clone, Copy)]
 pub enum Fragment<'a> {
     /// A part of a packet, and whether the packet ends with it.
-    Body { at: usize, body: &'a [u8], last: bool },
+    Body {
+        at: usize,
+        body: &'a [u8],
+        last: bool,
+    },
     /// The single byte at the frame's end that a packet's end left.
-    Notional { at: usize },
+    Notional {
+        at: usize,
+    },
     /// The rest of the frame is empty.
-    Padding { at: usize },
+    Padding {
+        at: usize,
+    },
 }
 
 /// Why there are no fragments to give.
@@ -43,6 +51,7 @@ impl<'a> Fragments<'a> {
     pub fn of(bytes: &'a [u8]) -> Result<Fragments<'a>, FragmentsFault>
         ensures asks { λ r. ⌜ answer r ≡ asked (now (bytes .entry)) ⌝ }
         ensures gives { λ r. ⌜ made r (λ f. coming f ≡ fragments (now (bytes .entry))) ⌝ }
+        ensures again { λ r. ⌜ made r (λ _. joined rendered (fragments (now (bytes .entry))) ≡ now (bytes .entry)) ⌝ }
     {
         if bytes.len() != 122 {
             return Err(FragmentsFault::NotAFrame);
