@@ -5,3 +5,6 @@ pub mod frame;
 pub mod header;
 pub mod judging;
 pub mod slot;
+#[cfg(test)]
+mod tests;
+pub mod words;
