@@ -29,12 +29,14 @@ stops-at-end frame at n m short long within = go (cases-lt (length frame - at) n
         ∙ sym (ap (λ r. map fragment-of (headers-from (at + m + 1) 0 r)) (drop-all (at + m) frame q))
     go (inr fits) = ap (λ k. from-index frame (at + k)) (sym (short fits))
 
-pub next-coming : (frame : List ℕ) (at m : ℕ) → at < length frame → m ≡ min (count-of (getD frame at 0)) (length frame - (at + 1))
-    → from-index frame at ≡ fragment-of (record { place = at + 1; byte = getD frame at 0; following = drop (at + 1) frame }) ∷ from-index frame (at + 1 + m)
-next-coming frame at m here clipped =
+pub next-coming : (frame : List ℕ) (at end : ℕ) → at < length frame → end ≡ at + 1 + min (count-of (getD frame at 0)) (length frame - (at + 1))
+    → from-index frame at ≡ fragment-of (record { place = at + 1; byte = getD frame at 0; following = drop (at + 1) frame }) ∷ from-index frame end
+next-coming frame at end here clipped =
+    let m : ℕ = min (count-of (getD frame at 0)) (length frame - (at + 1)) in
     ap (map fragment-of) (next-header frame at here)
     ∙ ap (λ r. fragment-of (record { place = at + 1; byte = getD frame at 0; following = drop (at + 1) frame }) ∷ r)
-    (stops-at-end frame (at + 1) (count-of (getD frame at 0)) m (λ h. omega arith) (λ h. omega arith) (omega arith))
+    (stops-at-end frame (at + 1) (count-of (getD frame at 0)) m (λ h. omega arith) (λ h. omega arith) (omega arith)
+    ∙ ap (from-index frame) (sym clipped))
 
 -- the fragment by its count
 pub padding-is : (place byte : ℕ) (rest : List ℕ) → count-of byte ≡ 127 → fragment-of (record { place = place; byte = byte; following = rest }) ≡ padding place

@@ -13,8 +13,14 @@ use Rattle.std.specs.declared.option.Option.the-variants.{Some, None}
 use Rattle.std.proofs.shelf.Lists.{append-nil, append-cancel-left, take-all, length-take-le, nil-from-length}
 use Rattle.std.proofs.shelf.Tests.{cases-eq, cases-bool, cond-true, cond-false, eq-eqb, ne-eqb, eqb-true, eqb-false, leb-true, ltb-true, and-parts, not-true, both-ways}
 use Rattle.framing.specs.Header.{count-of, last-of, byte-of, Header, headers-from}
-use Rattle.framing.specs.Judging.{Question, ask, first-no, all-zero, questions, padding-questions, notional-questions, body-questions, judgment-of, after-first, Judgment, is-lawful}
-use Rattle.framing.specs.Fragments.{Fragment, body, notional, padding, fragment-of, rendered, Bytes}
+use Rattle.std.specs.Vec.{made}
+use Rattle.std.specs.declared.result.Result.{Result}
+use Rattle.std.specs.declared.result.Result.the-variants.{Ok, Err}
+use Rattle.framing.specs.Giving.{Asked, gives, refuses, of-verdict, asked, answer}
+use Rattle.framing.specs.declared.fragments.Fragments.{Fragments}
+use Rattle.framing.specs.declared.fragments.FragmentsFault.{FragmentsFault}
+use Rattle.framing.specs.Judging.{Verdict, lawful, torn, judgment, Question, ask, first-no, all-zero, questions, padding-questions, notional-questions, body-questions, judgment-of, after-first, Judgment, is-lawful}
+use Rattle.framing.specs.Fragments.{Fragment, body, notional, padding, fragment-of, fragments, rendered, Bytes}
 use Rattle.framing.proofs.Coming.{padding-is, notional-is, body-is}
 
 -- 1. A lawful judgment, header by header.
@@ -136,3 +142,25 @@ rendered-from width place zero (h ∷ rest) ends fits good =
     let first = lawful-first width None (record { place = place; byte = h; following = rest }) (headers-from (place + 1) (count-of h) rest) good in
     one-again width place h rest ends (fits 0 (omega arith)) (first .0)
     (rendered-from width (place + 1) (count-of h) rest (omega arith) (tail-bytes h rest fits) (first .1))
+
+-- 4. Where the fragments are given, the frame is lawful.
+
+given-where-lawful : (bytes : List ℕ) → asked bytes ≡ gives → (length bytes ≡ 122) × (is-lawful (judgment 0 None bytes .verdict) ≡ true)
+given-where-lawful bytes e = go (cases-eq (length bytes) 122)
+  where
+    good : (v : Verdict) → of-verdict v ≡ gives → is-lawful v ≡ true
+    good lawful e′ = refl
+    good (torn q p) e′ = let z : _≡_ {A = ℕ} 0 1 = cc in let no-way : ⊥ = omega arith in absurd no-way
+
+    go : (length bytes ≡ 122) ⊎ (length bytes ≡ 122 → ⊥) → (length bytes ≡ 122) × (is-lawful (judgment 0 None bytes .verdict) ≡ true)
+    go (inl whole) =
+        (whole, good (judgment 0 None bytes .verdict) (sym (cond-true (eqb (length bytes) 122) (of-verdict (judgment 0 None bytes .verdict)) (refuses 10) (eq-eqb (length bytes) 122 whole)) ∙ e))
+    go (inr other) =
+        let bad : refuses 10 ≡ gives = sym (cond-false (eqb (length bytes) 122) (of-verdict (judgment 0 None bytes .verdict)) (refuses 10) (ne-eqb (length bytes) 122 other)) ∙ e in
+        let z : _≡_ {A = ℕ} 0 1 = cc in let no-way : ⊥ = omega arith in absurd no-way
+
+pub frame-again : (r : Result Fragments FragmentsFault) (bytes : List ℕ) → Bytes bytes → answer r ≡ asked bytes → made r (λ _. joined rendered (fragments bytes) ≡ bytes)
+frame-again (Ok f) bytes fits e =
+    let facts = given-where-lawful bytes (sym e) in
+    rendered-from 0 1 0 bytes (omega (arith, facts .0)) fits (facts .1)
+frame-again (Err f) bytes fits e = tt

@@ -1,4 +1,5 @@
 ghost use mathlib.Core.Path.{_≡_};
+ghost use Prim.Native.Nat.{min, _+_, _-_, _≤_};
 ghost use lib.ListN.{length};
 ghost use Rattle.std.specs.Vec.{made};
 ghost use Rattle.std.specs.Joined.{joined};
@@ -53,6 +54,13 @@ impl<'a> Fragments<'a> {
         ensures gives { λ r. ⌜ made r (λ f. coming f ≡ fragments (now (bytes .entry))) ⌝ }
         ensures again { λ r. ⌜ made r (λ _. joined rendered (fragments (now (bytes .entry))) ≡ now (bytes .entry)) ⌝ }
     {
+        Fragments::from_first(bytes)
+    }
+
+    fn from_first(bytes: &'a [u8]) -> Result<Fragments<'a>, FragmentsFault>
+        ensures asks { λ r. ⌜ answer r ≡ asked (now (bytes .entry)) ⌝ }
+        ensures gives { λ r. ⌜ made r (λ f. coming f ≡ fragments (now (bytes .entry))) ⌝ }
+    {
         if bytes.len() != 122 {
             return Err(FragmentsFault::NotAFrame);
         }
@@ -74,7 +82,7 @@ impl<'a> Fragments<'a> {
         }
         let header = FragmentHeader::from_byte(bytes[self.at]);
         let at = self.at + 1;
-        let end = at + (header.count as usize).min(bytes.len() - at);
+        let end = body_end(bytes, at, header);
         self.at = end;
         match header.count {
             PADDING => Some(Fragment::Padding { at }),
@@ -86,4 +94,12 @@ impl<'a> Fragments<'a> {
             }),
         }
     }
+}
+
+/// Where the body of a header ends that begins at the index `at`; one that would run past the end stops there.
+fn body_end(bytes: &[u8], at: usize, header: FragmentHeader) -> usize
+    requires { ⌜ at ≤ length (now bytes) ⌝ }
+    ensures { λ r. ⌜ r ≡ at + min (header .count) (length (now (bytes .entry)) - at) ⌝ }
+{
+    at + (header.count as usize).min(bytes.len() - at)
 }

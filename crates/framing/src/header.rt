@@ -1,5 +1,5 @@
 ghost use mathlib.Core.Path.{_≡_};
-ghost use Prim.Native.Nat.{_%_};
+ghost use Prim.Native.Nat.{_+_, _%_, _<_};
 ghost use Rattle.framing.specs.Header.{count-of, last-of, byte-of};
 
 /// The count that says that the rest of the frame is padding.
@@ -19,7 +19,7 @@ impl FragmentHeader {
         ensures { λ r. ⌜ (r .count ≡ count-of byte) × (r .last ≡ last-of byte) ⌝ }
     {
         FragmentHeader {
-            count: byte & 0x7f,
+            count: low_bits(byte),
             last: byte >> 7 == 1,
         }
     }
@@ -28,7 +28,22 @@ impl FragmentHeader {
     pub fn to_byte(self) -> u8
         ensures { λ r. ⌜ r ≡ byte-of (self .count % 128) (self .last) ⌝ }
     {
-        let count = self.count & 0x7f;
-        if self.last { 0x80 | count } else { count }
+        let count = low_bits(self.count);
+        if self.last { with_mark(count) } else { count }
     }
+}
+
+/// Bits 1 to 7 of a byte.
+fn low_bits(byte: u8) -> u8
+    ensures { λ r. ⌜ r ≡ byte % 128 ⌝ }
+{
+    byte & 0x7f
+}
+
+/// A count with the last mark set above it.
+fn with_mark(count: u8) -> u8
+    requires { ⌜ count < 128 ⌝ }
+    ensures { λ r. ⌜ r ≡ 128 + count ⌝ }
+{
+    1 << 7 | count
 }

@@ -21,9 +21,9 @@ returns-in-127 c =
     let frame = now (c .args .self .now .bytes) in
     let here : at < length frame = omega arith in
     let padded : count-of (getD frame at 0) ≡ 127 = omega arith in
-    let clipped : c .min .result ≡ min (count-of (getD frame at 0)) (length frame - (at + 1)) = omega arith in (
-      next-coming frame at (c .min .result) here clipped
-          ∙ ap (λ f. f ∷ from-index frame (at + 1 + c .min .result)) (padding-is (at + 1) (getD frame at 0) (drop (at + 1) frame) padded),
+    let clipped : c .body-end-end .result ≡ at + 1 + min (count-of (getD frame at 0)) (length frame - (at + 1)) = omega arith in (
+      next-coming frame at (c .body-end-end .result) here clipped
+          ∙ ap (λ f. f ∷ from-index frame (c .body-end-end .result)) (padding-is (at + 1) (getD frame at 0) (drop (at + 1) frame) padded),
       refl,
     )
 
@@ -33,9 +33,9 @@ returns-in-0 c =
     let frame = now (c .args .self .now .bytes) in
     let here : at < length frame = omega arith in
     let none : count-of (getD frame at 0) ≡ 0 = omega arith in
-    let clipped : c .min .result ≡ min (count-of (getD frame at 0)) (length frame - (at + 1)) = omega arith in (
-      next-coming frame at (c .min .result) here clipped
-          ∙ ap (λ f. f ∷ from-index frame (at + 1 + c .min .result)) (notional-is (at + 1) (getD frame at 0) (drop (at + 1) frame) none),
+    let clipped : c .body-end-end .result ≡ at + 1 + min (count-of (getD frame at 0)) (length frame - (at + 1)) = omega arith in (
+      next-coming frame at (c .body-end-end .result) here clipped
+          ∙ ap (λ f. f ∷ from-index frame (c .body-end-end .result)) (notional-is (at + 1) (getD frame at 0) (drop (at + 1) frame) none),
       refl,
     )
 
@@ -45,14 +45,14 @@ returns-in-rest c =
     let frame = now (c .args .self .now .bytes) in
     let here : at < length frame = omega arith in
     let n : ℕ = count-of (getD frame at 0) in
-    let clipped : c .min .result ≡ min n (length frame - (at + 1)) = omega arith in
+    let end : ℕ = c .body-end-end .result in
+    let clipped : c .body-end-end .result ≡ at + 1 + min (count-of (getD frame at 0)) (length frame - (at + 1)) = omega arith in
     let size : length (drop (at + 1) frame) ≡ length frame - (at + 1) = length-drop (at + 1) frame in
-    let inside : c .min .result ≡ min n (length (drop (at + 1) frame)) = omega arith in
-    let some : c .min .result ≡ at + 1 + c .min .result - (at + 1) = omega arith in (
-      next-coming frame at (c .min .result) here clipped
-          ∙ ap (λ f. f ∷ from-index frame (at + 1 + c .min .result))
+    let inside : c .body-end-end .result - (at + 1) ≡ min (count-of (getD frame at 0)) (length (drop (at + 1) frame)) = omega arith in (
+      next-coming frame at (c .body-end-end .result) here clipped
+          ∙ ap (λ f. f ∷ from-index frame (c .body-end-end .result))
           (body-is (at + 1) (getD frame at 0) (drop (at + 1) frame) (λ p. omega arith) (λ z. omega arith)
-          ∙ ap (λ b. body (at + 1) b (last-of (getD frame at 0))) (take-clipped (drop (at + 1) frame) n (c .min .result) inside ∙ ap (λ k. take k (drop (at + 1) frame)) some)
-          ∙ sym (ap (λ l. body (at + 1) (take (at + 1 + c .min .result - (at + 1)) (drop (at + 1) frame)) l) (c .from-byte-header .ensures .1))),
+          ∙ ap (λ b. body (at + 1) b (last-of (getD frame at 0))) (take-clipped (drop (at + 1) frame) n (c .body-end-end .result - (at + 1)) inside)
+          ∙ sym (ap (λ l. body (at + 1) (take (c .body-end-end .result - (at + 1)) (drop (at + 1) frame)) l) (c .from-byte-header .ensures .1))),
       refl,
     )
