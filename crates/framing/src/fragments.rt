@@ -71,11 +71,19 @@ impl<'a> Fragments<'a> {
         }
         Ok(Fragments { bytes, at: 0 })
     }
+}
+
+pub impl<'a> Iterator for Fragments<'a> as FragmentsIterator {
+    type Item = Fragment<'a>;
+
+    ghost steps = { λ s r t. Gives s r t };
+
+    ghost ends = { λ _. Unit {0} };
+
+    ghost left = { λ s. length (coming s) };
 
     /// The next fragment, as a part of the frame, or nothing after the last.
-    pub fn next(&mut self) -> Option<Fragment<'a>>
-        ensures { λ r. ⌜ Gives (now (self .entry)) r (now (self .exit)) ⌝ }
-    {
+    fn next(&mut self) -> Option<Fragment<'a>> {
         let bytes = self.bytes;
         if self.at >= bytes.len() {
             return None;

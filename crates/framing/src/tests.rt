@@ -1,6 +1,7 @@
 use crate::fragments::Fragment;
 use crate::fragments::Fragments;
 use crate::fragments::FragmentsFault;
+use crate::fragments::FragmentsIterator;
 use crate::frame::Frame;
 use crate::header::FragmentHeader;
 use crate::judging::judge;
