@@ -1,0 +1,5 @@
+//! The words of the program: what its arguments ask for, and the reports that it writes.
+pub mod command;
+pub mod frames;
+pub mod text;
+pub mod verify;

@@ -1,0 +1,10 @@
+mod Bits
+mod Counts
+mod Dealing
+mod Format
+mod Maps
+mod Questions
+mod Readings
+mod Reels
+mod Walks
+mod Writing

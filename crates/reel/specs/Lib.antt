@@ -1,0 +1,9 @@
+pub mod Bits
+pub mod Block
+pub mod Checking
+pub mod Counting
+pub mod Laws
+pub mod Parts
+pub mod Recording
+pub mod Reel
+pub mod Walking

@@ -1,0 +1,9 @@
+//! Reels: recordings of the superframes of a broadcast, one block a superframe.
+pub mod block;
+pub mod blocks;
+pub mod checking;
+pub mod counting;
+pub mod fault;
+pub mod laws;
+mod parsing;
+pub mod slots;
