@@ -15,7 +15,7 @@ use Rattle.std.proofs.shelf.Bits.{shr-shr}
 use Rattle.std.proofs.shelf.Lists.{append-nil, getD-append-left, getD-drop, getD-take, length-append, length-take, drop-all, drop-at, drop-drop, drop-more}
 use Rattle.std.proofs.shelf.Tests.{eq-eqb, ne-eqb, cases-eq}
 use Rattle.std.proofs.shelf.Ways.{tells}
-use Rattle.reel.specs.Bits.{bitsOf, valueOf, bits, mapOf, mapSize, setBits, allClear}
+use Rattle.reel.specs.Bits.{bitsOf, bits, bitAt, setBits, allClear}
 
 pub length-bitsOf : (k b : ℕ) → length (bitsOf k b) ≡ k
 unfolding bitsOf
@@ -139,7 +139,7 @@ bit-at map q r inside small =
 
 -- the first of the bits that are left of a map's first n
 pub next-bit : (map : List ℕ) (n i : ℕ) → i < n → i / 8 < length map
-    → drop i (take n (bits map)) ≡ eqb (getD map (i / 8) 0 / 2 ^ (i % 8) % 2) 1 ∷ drop (i + 1) (take n (bits map))
+    → drop i (take n (bits map)) ≡ bitAt map i ∷ drop (i + 1) (take n (bits map))
 next-bit map n i below inside =
     let long = length-bits map in
     let within : i < length (take n (bits map)) = simp length-take (omega arith) in

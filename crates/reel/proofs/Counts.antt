@@ -11,9 +11,10 @@ use Rattle.std.specs.declared.result.Result.the-variants.{Ok, Err}
 use Rattle.std.proofs.shelf.Lists.{length-drop, length-take}
 use Rattle.reel.specs.declared.block.Block.{Block}
 use Rattle.reel.specs.declared.blocks.Blocks.{Blocks}
+use Rattle.reel.specs.declared.counting.Contents.{Contents}
 use Rattle.reel.specs.Bits.{bits, setBits}
 use Rattle.reel.specs.Block.{Superframe, size, mapPart, framesSize, framesPart, blockSize, dealt, superframe, refusal}
-use Rattle.reel.specs.Counting.{frameCount, gapCount, total}
+use Rattle.reel.specs.Counting.{frameCount, gapCount, total, one-more}
 use Rattle.reel.specs.Parts.{held, Parts}
 use Rattle.reel.specs.Reel.{Reading, reading}
 use Rattle.reel.specs.Walking.{ahead, toRead, Next, Reads}
@@ -34,16 +35,16 @@ both-counted (Some f ∷ s) = let more = both-counted s in omega arith
 both-counted (None ∷ s) = let more = both-counted s in omega arith
 
 -- the count so far, and what is still to be read
-pub record Counted (reel : List ℕ) (s : Blocks) (superframes frames gaps : ℕ) : Type 0 where
+pub record Counted (reel : List ℕ) (s : Blocks) (c : Contents) : Type 0 where
   pub stop : toRead s .stop ≡ reading reel .stop
-  pub superframes-so-far : superframes + length (toRead s .superframes) ≡ length (reading reel .superframes)
-  pub frames-so-far : frames + total frameCount (toRead s .superframes) ≡ total frameCount (reading reel .superframes)
-  pub gaps-so-far : gaps + total gapCount (toRead s .superframes) ≡ total gapCount (reading reel .superframes)
+  pub superframes-so-far : c .superframes + length (toRead s .superframes) ≡ length (reading reel .superframes)
+  pub frames-so-far : c .frames + total frameCount (toRead s .superframes) ≡ total frameCount (reading reel .superframes)
+  pub gaps-so-far : c .gaps + total gapCount (toRead s .superframes) ≡ total gapCount (reading reel .superframes)
   pub over : now (s .reel) ≡ reel
   pub within-reel : s .passed ≤ length reel
-  pub few-superframes : superframes ≤ s .passed
-  pub few-frames : frames ≤ s .passed
-  pub few-gaps : gaps ≤ 8 * s .passed
+  pub few-superframes : c .superframes ≤ s .passed
+  pub few-frames : c .frames ≤ s .passed
+  pub few-gaps : c .gaps ≤ 8 * s .passed
 
 -- one block: its frames and gaps by its parts
 pub record One (b : Block) (long : ℕ) : Type 0 where
@@ -67,11 +68,20 @@ one-block bytes place b fine parts =
       gaps-fit = omega arith;
     }
 
+-- one block more does not reach past the reel
+pub still-fits : (reel : List ℕ) (s : Blocks) (c : Contents) (b : Block) → Counted reel s c → refusal (ahead s) ≡ None → One b (blockSize (ahead s))
+    → c .frames + frameCount (held b) ≤ length reel
+still-fits reel s c b so fine one =
+    let whole = within (ahead s) (lawful (ahead s) fine) .whole in
+    let rest = length-drop (s .passed) (now (s .reel)) in
+    let same = ap length (so .over) in
+    omega (arith, so, one)
+
 -- one block more is counted
-pub counted-more : (reel : List ℕ) (s : Blocks) (superframes frames gaps : ℕ) (b : Block) (t : Blocks) → Counted reel s superframes frames gaps
-    → Next s (Some (Ok b)) t → Reads s (Some (Ok b)) t → (there here : ℕ) → there ≡ length (now (b .frames)) / 122 → here ≡ b .size
-    → Counted reel t (superframes + 1) (frames + there) (gaps + (here - there))
-counted-more reel s superframes frames gaps b t so step reads there here there-is here-is =
+pub counted-more : (reel : List ℕ) (s : Blocks) (c : Contents) (b : Block) (t : Blocks) → Counted reel s c
+    → Next s (Some (Ok b)) t → Reads s (Some (Ok b)) t → (slots frames : ℕ) → slots ≡ b .size → frames ≡ length (now (b .frames)) / 122
+    → Counted reel t (one-more c slots frames)
+counted-more reel s c b t so step reads slots frames slots-are frames-are =
     let one = one-block (ahead s) (s .passed + 1) b (step .1) (step .2) in
     let tail = reads .2 in
     let whole = within (ahead s) (lawful (ahead s) (step .1)) .whole in

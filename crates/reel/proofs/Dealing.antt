@@ -5,18 +5,15 @@ use mathlib.Core.List.{List, [], _∷_, _++_, map}
 use mathlib.Core.Logic.{_⊎_, inl, inr, ⊎-elim}
 use Prim.Native.Nat.{ℕ, zero, suc, _+_, _-_, _*_, _/_, _%_, _^_, _≤_, _<_, min}
 use native.Mathlib.Omega.{arith}
-use lib.Bits.{bitAnd}
-use lib.Dec.{eqb}
 use lib.ListN.{length, getD, take, drop}
 use lib.Seq.{take-add}
 use Rattle.std.specs.declared.option.Option.{Option}
 use Rattle.std.specs.declared.option.Option.the-variants.{Some, None}
-use Rattle.std.proofs.shelf.Bits.{and-mask}
 use Rattle.std.specs.Options.{isSome}
 use Rattle.std.proofs.shelf.Elements.{all-append, all-drop, all-take}
 use Rattle.std.proofs.shelf.Lists.{drop-all, drop-at, length-append, length-drop, length-take-le, take-all, take-at}
-use Rattle.std.proofs.shelf.Tests.{cases-lt, eqb-true, eq-eqb, ne-eqb}
-use Rattle.reel.specs.Bits.{bits, setBits}
+use Rattle.std.proofs.shelf.Tests.{cases-lt}
+use Rattle.reel.specs.Bits.{bits, bitAt, setBits}
 use Rattle.reel.specs.Block.{Superframe, Bytes, Frames, frameBytes, dealt}
 use Rattle.reel.proofs.Bits.{next-bit, no-bit}
 
@@ -36,23 +33,17 @@ drop-most n xs =
     (cases-lt n (length xs))
 
 module _ (map : List ℕ) (n i : ℕ) (frames : List ℕ) where
-  abbrev bit : ℕ
-  bit = getD map (i / 8) 0 / 2 ^ (i % 8)
-
   abbrev left : ℕ → List ℕ → Superframe
   left k bytes = dealt (drop k (take n (bits map))) bytes
 
-  pub deals-gap : i < n → i / 8 < length map → bitAnd bit 1 ≡ 0 → left i frames ≡ None ∷ left (i + 1) frames
+  pub deals-gap : i < n → i / 8 < length map → bitAt map i ≡ false → left i frames ≡ None ∷ left (i + 1) frames
   deals-gap below inside clear =
-      let e : eqb (bit % 2) 1 ≡ false = ne-eqb (bit % 2) 1 (λ one. omega (arith, and-mask bit 1)) in
-      ap (λ (xs : List Bool). dealt xs frames) (next-bit map n i below inside ∙ ap (λ (b : Bool). b ∷ drop (i + 1) (take n (bits map))) e)
+      ap (λ (xs : List Bool). dealt xs frames) (next-bit map n i below inside ∙ ap (λ (b : Bool). b ∷ drop (i + 1) (take n (bits map))) clear)
 
-  pub deals-frame : i < n → i / 8 < length map → (bitAnd bit 1 ≡ 0 → ⊥)
+  pub deals-frame : i < n → i / 8 < length map → bitAt map i ≡ true
       → left i frames ≡ Some (take 122 frames) ∷ left (i + 1) (drop 122 frames)
   deals-frame below inside set =
-      let one : bit % 2 ≡ 1 = ⊎-elim (λ (h : bit % 2 < 1). absurd (set (omega (arith, and-mask bit 1)))) (λ (h : 1 ≤ bit % 2). omega arith) (cases-lt (bit % 2) 1) in
-      let e : eqb (bit % 2) 1 ≡ true = eq-eqb (bit % 2) 1 one in
-      ap (λ (xs : List Bool). dealt xs frames) (next-bit map n i below inside ∙ ap (λ (b : Bool). b ∷ drop (i + 1) (take n (bits map))) e)
+      ap (λ (xs : List Bool). dealt xs frames) (next-bit map n i below inside ∙ ap (λ (b : Bool). b ∷ drop (i + 1) (take n (bits map))) set)
 
 -- ---- what is dealt out, gathered again
 

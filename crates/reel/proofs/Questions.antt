@@ -3,14 +3,14 @@ use mathlib.Core.Path.{_≡_, refl, sym, ap, _∙_}
 use mathlib.Core.Bool.{Bool, true, false, cond, _&&_}
 use mathlib.Core.List.{List}
 use mathlib.Core.Logic.{_⊎_, inl, inr, ⊎-elim}
-use Prim.Native.Nat.{ℕ, _≤_, _<_}
+use Prim.Native.Nat.{ℕ, _*_, _≤_, _<_}
 use native.Mathlib.Omega.{arith}
 use lib.ListN.{length, take, drop}
 use Rattle.std.specs.declared.option.Option.{Option}
 use Rattle.std.specs.declared.option.Option.the-variants.{Some, None}
 use Rattle.std.proofs.shelf.Lists.{length-take, length-drop}
 use Rattle.std.proofs.shelf.Tests.{and-parts, and-from, and-left, and-right, cond-true, cond-false, le-leb, lt-leb, leb-true}
-use Rattle.reel.specs.Bits.{bits, mapSize, allClear}
+use Rattle.reel.specs.Bits.{bits, mapSize, setBits, allClear}
 use Rattle.reel.specs.Block.{size, mapPart, framesSize, framesPart, behindMap, blockSize, hasSize, hasMap, hasFrames, refusal}
 
 -- the three questions, each answered yes
@@ -92,3 +92,26 @@ within bytes h =
       frames = simp (length-take, length-drop) (omega arith);
       whole = omega arith;
     }
+
+pub sized-from : (bytes : List ℕ) → true ≡ hasSize bytes → Sized bytes
+sized-from bytes e = let both = and-parts _ _ (sym e) in (leb-true _ _ (both .0), leb-true _ _ (both .1))
+
+-- The questions as they are put one after the other: the parts are cut off as they are reached.
+module _
+    (bytes map behind : List ℕ) (set : ℕ) (map-is : map ≡ mapPart bytes) (behind-is : behind ≡ behindMap bytes)
+    (size-yes : true ≡ hasSize bytes) (long : mapSize (size bytes) ≤ length (drop 1 bytes))
+    (spare-yes : true ≡ allClear (drop (size bytes) (bits map))) (set-is : set ≡ setBits (bits map)) where
+  mapped : Mapped bytes
+  mapped = (long, ap (λ (m : List ℕ). allClear (drop (size bytes) (bits m))) (sym map-is) ∙ sym spare-yes)
+
+  pub frames-are : 122 * set ≡ framesSize bytes
+  frames-are = ap (λ (n : ℕ). 122 * n) (set-is ∙ ap (λ (m : List ℕ). setBits (bits m)) map-is)
+
+  pub cut-short : length behind < 122 * set → refusal bytes ≡ Some 23
+  cut-short few = let size-is = frames-are in let rest = ap length behind-is in frames-short bytes (sized-from bytes size-yes) mapped (omega arith)
+
+  pub all-there : 122 * set ≤ length behind → refusal bytes ≡ None
+  all-there enough =
+      let size-is = frames-are in
+      let rest = ap length behind-is in
+      none-refused bytes (record { sized = sized-from bytes size-yes; mapped = mapped; framed = omega arith })

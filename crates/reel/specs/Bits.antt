@@ -1,9 +1,9 @@
 -- Bits, and the bit map of a block.
 use mathlib.Core.Bool.{Bool, true, false, cond, not, _&&_}
 use mathlib.Core.List.{List, [], _∷_, _++_}
-use Prim.Native.Nat.{ℕ, zero, suc, _+_, _*_, _/_, _%_}
+use Prim.Native.Nat.{ℕ, zero, suc, _+_, _*_, _/_, _%_, _^_}
 use lib.Dec.{eqb}
-use lib.ListN.{take, drop}
+use lib.ListN.{getD, take, drop}
 
 -- the k lowest bits of a number, the lowest first
 unfoldable pub bitsOf : ℕ → ℕ → List Bool
@@ -19,6 +19,10 @@ valueOf (x ∷ xs) = cond x 1 0 + 2 * valueOf xs
 unfoldable pub bits : List ℕ → List Bool
 bits [] = []
 bits (b ∷ map) = bitsOf 8 b ++ bits map
+
+-- bit i of a bit map, counted from 0: eight bits a byte, the lowest first
+abbrev pub bitAt : List ℕ → ℕ → Bool
+bitAt map i = eqb (getD map (i / 8) 0 / 2 ^ (i % 8) % 2) 1
 
 -- the bit map of so many bytes that has these bits, eight a byte; the bits left over are clear
 unfoldable pub mapOf : ℕ → List Bool → List ℕ

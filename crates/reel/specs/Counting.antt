@@ -1,7 +1,7 @@
 -- What a reel holds, counted.
 use mathlib.Core.Path.{_≡_}
 use mathlib.Core.List.{List, [], _∷_}
-use Prim.Native.Nat.{ℕ, _+_}
+use Prim.Native.Nat.{ℕ, _+_, _-_}
 use lib.ListN.{length}
 use Rattle.std.specs.declared.option.Option.the-variants.{Some, None}
 use Rattle.reel.specs.declared.counting.Contents.{Contents}
@@ -23,6 +23,11 @@ abbrev pub total : (Superframe → ℕ) → List Superframe → ℕ
 total f [] = 0
 total f (s ∷ ss) = f s + total f ss
 
+-- a count with one superframe more, which has so many frames and gaps and so many frames
+abbrev pub one-more : Contents → ℕ → ℕ → Contents
+one-more c slots frames = record { superframes = c .superframes + 1; frames = c .frames + frames; gaps = c .gaps + (slots - frames) }
+
+-- what these superframes hold, counted
 pub record Counts (ss : List Superframe) (c : Contents) : Type 0 where
   pub superframes : c .superframes ≡ length ss
   pub frames : c .frames ≡ total frameCount ss

@@ -1,4 +1,5 @@
 ghost use mathlib.Core.Path.{_≡_};
+ghost use Prim.Native.Nat.{_+_, _<_};
 ghost use denote.Ref.{now};
 ghost use lib.ListN.{length};
 ghost use Rattle.reel.specs.Reel.{reading};
@@ -23,6 +24,23 @@ impl<'a> Blocks<'a> {
     {
         Blocks { reel, passed: 0 }
     }
+
+    /// The place of the byte in front, counted from 1.
+    fn place(self) -> usize
+        requires { ⌜ self .passed < length (now (self .reel)) ⌝ }
+        ensures { λ r. ⌜ r ≡ self .entry .passed + 1 ⌝ }
+    {
+        self.passed + 1
+    }
+}
+
+impl<'a> Block<'a> {
+    /// How many bytes of the reel the block takes.
+    fn bytes_taken(self) -> usize
+        ensures { λ r. ⌜ r ≡ 1 + length (now (self .entry .map)) + length (now (self .entry .frames)) ⌝ }
+    {
+        1 + self.map.len() + self.frames.len()
+    }
 }
 
 pub impl<'a> Iterator for Blocks<'a> as BlocksIterator {
@@ -38,10 +56,10 @@ pub impl<'a> Iterator for Blocks<'a> as BlocksIterator {
         if self.passed >= self.reel.len() {
             return None;
         }
-        let at = self.passed + 1;
+        let at = self.place();
         match read_block(&self.reel[self.passed..], at) {
             Ok(block) => {
-                self.passed += 1 + block.map.len() + block.frames.len();
+                self.passed += block.bytes_taken();
                 Some(Ok(block))
             }
             Err(fault) => {

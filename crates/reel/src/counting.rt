@@ -1,7 +1,8 @@
 ghost use mathlib.Core.Path.{_≡_};
+ghost use Prim.Native.Nat.{_+_, _^_, _<_, _≤_};
 ghost use Rattle.std.specs.Vec.{made};
 ghost use Rattle.reel.specs.Checking.{told};
-ghost use Rattle.reel.specs.Counting.{Counts};
+ghost use Rattle.reel.specs.Counting.{one-more, Counts};
 ghost use Rattle.reel.specs.Reel.{reading};
 use crate::blocks::Blocks;
 use crate::blocks::BlocksIterator;
@@ -17,24 +18,33 @@ pub struct Contents {
     pub gaps: u128,
 }
 
+impl Contents {
+    /// The count with one superframe more, which has so many frames and gaps and so many frames.
+    fn with(self, slots: usize, frames: usize) -> Contents
+        requires { ⌜ self .superframes + 1 < 2 ^ 64 ⌝ ∗ ⌜ self .frames + frames < 2 ^ 64 ⌝ ∗ ⌜ frames ≤ slots ⌝ ∗ ⌜ self .gaps + slots < 2 ^ 128 ⌝ }
+        ensures { λ r. ⌜ r ≡ one-more self slots frames ⌝ }
+    {
+        Contents {
+            superframes: self.superframes + 1,
+            frames: self.frames + frames,
+            gaps: self.gaps + (slots - frames) as u128,
+        }
+    }
+}
+
 /// Checks a reel, and counts what it holds.
 pub fn count(reel: &[u8]) -> Result<Contents, ReelFault>
     ensures answer { λ r. ⌜ told r ≡ reading (now (reel .entry)) .stop ⌝ }
     ensures counts { λ r. ⌜ made r (λ c. Counts (reading (now (reel .entry)) .superframes) c) ⌝ }
 {
-    let mut superframes = 0;
-    let mut frames = 0;
-    let mut gaps = 0;
+    let mut counted = Contents {
+        superframes: 0,
+        frames: 0,
+        gaps: 0,
+    };
     for block in Blocks::of(reel) {
         let block = block?;
-        let there = block.frames.len() / 122;
-        superframes += 1;
-        frames += there;
-        gaps += (usize::from(block.size) - there) as u128;
+        counted = counted.with(usize::from(block.size), block.frames.len() / 122);
     }
-    Ok(Contents {
-        superframes,
-        frames,
-        gaps,
-    })
+    Ok(counted)
 }

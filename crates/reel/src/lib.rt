@@ -4,6 +4,7 @@ pub mod blocks;
 pub mod checking;
 pub mod counting;
 pub mod fault;
-pub mod laws;
 mod parsing;
 pub mod slots;
+#[cfg(test)]
+mod tests;

@@ -1,6 +1,8 @@
 ghost use mathlib.Core.Path.{_≡_};
+ghost use Prim.Native.Nat.{_/_, _<_};
 ghost use denote.Ref.{now};
 ghost use lib.ListN.{length};
+ghost use Rattle.reel.specs.Bits.{bitAt};
 ghost use Rattle.reel.specs.Parts.{held};
 ghost use Rattle.reel.specs.Recording.{toCome, Comes};
 use crate::block::Block;
@@ -23,6 +25,14 @@ pub struct Slots<'a> {
     size: u8,
     /// How many frames and gaps have come.
     passed: u8,
+}
+
+/// Bit `i`, counted from 0, of a bit map.
+fn bit(map: &[u8], i: usize) -> bool
+    requires { ⌜ i / 8 < length (now map) ⌝ }
+    ensures { λ r. ⌜ r ≡ bitAt (now (map .entry)) i ⌝ }
+{
+    (map[i / 8] >> (i % 8)) % 2 == 1
 }
 
 impl<'a> Block<'a> {
@@ -54,7 +64,7 @@ pub impl<'a> Iterator for Slots<'a> as SlotsIterator {
             return None;
         }
         self.passed += 1;
-        if self.map[i / 8] >> (i % 8) & 1 == 0 {
+        if !bit(self.map, i) {
             return Some(Recorded::Gap);
         }
         let (frame, rest) = self.frames.split_at(self.frames.len().min(122));

@@ -1,0 +1,5 @@
+pub mod Sends
+mod Places
+mod Rounds
+mod Fades
+mod Layers

@@ -1,0 +1,3 @@
+pub mod Stretch
+pub mod Detection
+pub mod Crc16

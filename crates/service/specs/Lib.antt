@@ -1,0 +1,10 @@
+pub mod Asking
+pub mod Encoding
+pub mod Examples
+pub mod Faults
+pub mod Map
+pub mod Reading
+pub mod Serving
+pub mod Spelling
+pub mod Words
+pub mod Writing
