@@ -15,6 +15,13 @@ use crate::sending::Outgoing;
 use framing::frame::Frame;
 use framing::slot::Slot;
 
+/// The bytes that a slot takes in the memory: one that tells a frame from a mark, and the frame's.
+const SLOT: usize = 123;
+/// The first byte of a slot that is a frame, and of one that is a mark.
+const FRAME: u8 = 0;
+
+const MARK: u8 = 1;
+
 /// A channel that keeps its slots in handed-in memory, and loses and changes nothing. A slot takes 123 bytes, and what is left
 /// over at the end of the memory is never touched.
 #[derive(Drop)]
@@ -46,7 +53,7 @@ impl Ring<'_> {
     pub fn capacity(&self) -> usize
         ensures { λ r. ⌜ r ≡ capacity (now (now (self .entry) .memory)) ⌝ }
     {
-        self.memory.len() / 123
+        self.memory.len() / SLOT
     }
 
     /// How many slots wait.
@@ -77,12 +84,12 @@ impl Ring<'_> {
         requires { ⌜ place < capacity (now (now self .memory)) ⌝ }
         ensures { λ r. ⌜ r ≡ slot-at (now (now (self .entry) .memory)) place ⌝ }
     {
-        let at = place * 123;
-        if self.memory[at] != 0 {
+        let at = place * SLOT;
+        if self.memory[at] != FRAME {
             return Slot::Mark;
         }
         let mut bytes = [0; 122];
-        bytes.copy_from_slice(&self.memory[at + 1..at + 123]);
+        bytes.copy_from_slice(&self.memory[at + 1..at + SLOT]);
         Slot::Frame(Frame { bytes })
     }
 
@@ -123,13 +130,13 @@ fn store(memory: &mut [u8], place: usize, item: &Outgoing)
     ensures holds { λ _. ⌜ slot-at (now (memory .exit)) place ≡ as-slot (now (item .entry)) ⌝ }
     ensures elsewhere { λ _. ⌜ Only-at place (now (memory .entry)) (now (memory .exit)) ⌝ }
 {
-    let at = place * 123;
+    let at = place * SLOT;
     match item {
         Outgoing::Frame(frame) => {
-            memory[at] = 0;
-            memory[at + 1..at + 123].copy_from_slice(&frame.bytes);
+            memory[at] = FRAME;
+            memory[at + 1..at + SLOT].copy_from_slice(&frame.bytes);
         }
-        Outgoing::Mark => memory[at] = 1,
+        Outgoing::Mark => memory[at] = MARK,
     }
 }
 

@@ -8,7 +8,8 @@ use native.Mathlib.Omega.{arith}
 use lib.ListN.{length}
 use lib.Bits.{bitXor}
 use Rattle.checksum.specs.Stretch.{Bytes, byte-bits, bits}
-use Rattle.checksum.specs.Crc16.{feedBy, feed, tabled}
+use Rattle.checksum.specs.Crc16.{feedBy, feed}
+use Rattle.checksum.specs.Lookup.{tabled}
 use Rattle.checksum.proofs.Bytewise.{blank, feed-add, high-byte, byte}
 
 -- what the bytes add, each on its own

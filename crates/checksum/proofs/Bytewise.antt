@@ -12,7 +12,8 @@ use lib.Bits.{bitXor, xor-block, xor-mod, xor-shr, xor-shifted, xor-comm}
 use Rattle.std.specs.Iters.{counting}
 use Rattle.std.proofs.shelf.Counted.{getD-map-counting}
 use Rattle.checksum.specs.Stretch.{odd, byte-bits}
-use Rattle.checksum.specs.Crc16.{unlike, stepBy, feedBy, feed, tabled}
+use Rattle.checksum.specs.Crc16.{unlike, stepBy, feedBy, feed}
+use Rattle.checksum.specs.Lookup.{tabled}
 use Rattle.checksum.proofs.Bits.{xor-swap, odd-xor}
 
 abbrev step : ℕ → Bool → ℕ

@@ -7,7 +7,8 @@ use lib.Dec.{lit<}
 use lib.Bits.{bitXor, xor-self, xor-zero-r}
 use Rattle.checksum.specs.Stretch.{Bytes, byte-bits, bits}
 use Rattle.checksum.specs.Detection.{Detects}
-use Rattle.checksum.specs.Crc16.{stepBy, feedBy, feed, tabled, register, crc16}
+use Rattle.checksum.specs.Crc16.{stepBy, feedBy, feed, register, crc16}
+use Rattle.checksum.specs.Lookup.{tabled}
 use Rattle.checksum.proofs.Bursts.{feed-lt, apart}
 use Rattle.checksum.proofs.Bytewise.{byte}
 

@@ -9,7 +9,8 @@ use lib.ListN.{length, getD}
 use Rattle.std.specs.Iters.{counting}
 use Rattle.std.proofs.shelf.Counted.{getD-map-counting}
 use Rattle.checksum.specs.Stretch.{byte-bits}
-use Rattle.checksum.specs.Crc16.{feed, tabled, Tables}
+use Rattle.checksum.specs.Crc16.{feed}
+use Rattle.checksum.specs.Lookup.{tabled, Tables}
 
 -- one more zero byte enters
 abbrev next : ℕ → ℕ

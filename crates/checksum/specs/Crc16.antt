@@ -1,11 +1,10 @@
 -- CRC-16 with the generator x^16 + x^12 + x^5 + 1: a shift register that takes in a string bit by bit.
 -- Assumes nothing.
 use mathlib.Core.Bool.{Bool, true, false, not, cond}
-use mathlib.Core.List.{List, [], _∷_, map}
-use mathlib.Core.Path.{_≡_}
-use Prim.Native.Nat.{ℕ, zero, suc, _+_, _*_, _/_, _%_, _^_}
+use mathlib.Core.List.{List, [], _∷_}
+use Prim.Native.Nat.{ℕ, _+_, _*_, _/_, _%_, _^_}
 use lib.Bits.{bitXor}
-use Rattle.checksum.specs.Stretch.{odd, byte-bits, bits}
+use Rattle.checksum.specs.Stretch.{odd, bits}
 
 -- two bits are not the same
 abbrev pub unlike : Bool → Bool → Bool
@@ -34,15 +33,3 @@ register s = feed 0xFFFF (bits s)
 -- the value: the register as it is, the high byte first
 abbrev pub crc16 : List ℕ → List ℕ
 crc16 s = register s / 256 ∷ register s % 256 ∷ []
-
--- What a byte, as the highest eight bits of the register, comes to while a zero byte enters, and then `later` more: the
--- rule of the look-up tables.
-unfoldable pub tabled : ℕ → ℕ → ℕ
-tabled zero i = feed (i * 256) (byte-bits 0)
-tabled (suc later) i = feed (tabled later i) (byte-bits 0)
-
--- Tables of one entry for each byte: the first is the one expected, and in each later one the entries are what one more
--- zero byte makes of those in the table before it.
-abbrev pub Tables : List ℕ → List (List ℕ) → Type 0
-Tables expected [] = Unit {0}
-Tables expected (row ∷ rows) = (row ≡ expected) × Tables (map (λ r. feed r (byte-bits 0)) row) rows

@@ -11,8 +11,7 @@ ghost use Rattle.std.specs.Orderings.{Decides};
 ///
 /// The law `detects`: change a string and its value together in at least one bit, all inside one stretch of at most
 /// `REACH` bits, and the new value no longer fits the new string. The bits run from bit 8, the highest, to bit 1 of each
-/// byte, through the string and then through the value. Every checksum owes the laws, and code over any checksum may
-/// use them.
+/// byte, through the string and then through the value.
 pub trait Checksum {
     /// How many bytes a value has: 0 to 4.
     const WIDTH: usize;
@@ -20,12 +19,14 @@ pub trait Checksum {
     /// How many bits a stretch may have within which every change is detected.
     const REACH: usize;
 
+    // The meaning: the two constants, and the value of every string. It takes no `Self`: a value depends on the string alone.
     ghost width: { ℕ };
 
     ghost reach: { ℕ };
 
     ghost value: { List ℕ → List ℕ };
 
+    // What every checksum owes, and code over any checksum may use.
     law narrow: { width ≤ 4 };
 
     law sized: { (s : List ℕ) → length (value s) ≡ width };

@@ -2,7 +2,7 @@ ghost use mathlib.Core.List.{map};
 ghost use mathlib.Core.Path.{_≡_};
 ghost use Prim.Native.Nat.{_%_};
 ghost use lib.ListN.{length};
-ghost use Rattle.checksum.specs.Crc16.{Tables, tabled};
+ghost use Rattle.checksum.specs.Lookup.{Tables, tabled};
 ghost use Rattle.std.specs.Iters.{counting};
 
 /// What a byte, as the highest eight bits of the register, comes to while a zero byte enters and then `later` more, which
@@ -21,6 +21,7 @@ fn tables() -> &'static [[u16; 256]; 8]
     &TABLES
 }
 
+// The entries of one table are those of the table before it after one more zero byte.
 static TABLES: [[u16; 256]; 8] = [
     [
         0x0000,

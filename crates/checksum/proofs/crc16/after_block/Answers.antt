@@ -6,7 +6,8 @@ use lib.Bits.{bitAnd, bitXor, and-mask}
 use lib.ListN.{getD}
 use Rattle.std.proofs.shelf.Counted.{fill-by-all}
 use Rattle.checksum.specs.Stretch.{Bytes, bits}
-use Rattle.checksum.specs.Crc16.{feed, tabled}
+use Rattle.checksum.specs.Crc16.{feed}
+use Rattle.checksum.specs.Lookup.{tabled}
 use Rattle.checksum.proofs.Blocks.{sliced, block}
 use Rattle.checksum.proofs.crc16.after_block.Needs as need
 

@@ -1,0 +1,11 @@
+pub mod Cutting
+pub mod Writing
+pub mod Asking
+pub mod Numbers
+pub mod Sending
+pub mod Calls
+pub mod Since
+pub mod Happening
+pub mod Carrying
+pub mod Keeping
+pub mod Runs

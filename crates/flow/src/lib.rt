@@ -1,0 +1,12 @@
+//! One flow of packets over a channel: both sides, and the run law on its calls.
+mod cutting;
+pub mod faults;
+pub mod flow;
+mod fragment;
+mod holding;
+mod joining;
+pub mod laws;
+mod padding;
+mod placing;
+pub mod token;
+mod writer;

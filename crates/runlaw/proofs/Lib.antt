@@ -1,0 +1,11 @@
+pub mod Folds
+pub mod Fates
+pub mod Rows
+pub mod Alignment
+pub mod Followed
+pub mod Judged
+pub mod Holds
+pub mod Laid
+pub mod Carrying
+pub mod Events
+pub mod Verdicts
