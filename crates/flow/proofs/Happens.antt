@@ -59,10 +59,10 @@ module _
         → Of h new
     arrived old new h st rd sl since writer reader channel steady ties = (
       subst (λ b. Since b width value (verdict (new .service)) made h (state-of (new .writer)) (view (new .reader)) (slots (new .channel))) (sym (steady .fasb))
-      (subst (λ v. Since (old .fasb) width value (verdict v) made h (state-of (new .writer)) (view (new .reader)) (slots (new .channel))) (sym (steady .service))
-      (subst (λ x. Since (old .fasb) width value (verdict (old .service)) made h x (view (new .reader)) (slots (new .channel))) (sym writer)
-      (subst (λ x. Since (old .fasb) width value (verdict (old .service)) made h st x (slots (new .channel))) (sym reader)
-      (subst (λ x. Since (old .fasb) width value (verdict (old .service)) made h st rd x) (sym channel) since)))),
+          (subst (λ v. Since (old .fasb) width value (verdict v) made h (state-of (new .writer)) (view (new .reader)) (slots (new .channel))) (sym (steady .service))
+          (subst (λ x. Since (old .fasb) width value (verdict (old .service)) made h x (view (new .reader)) (slots (new .channel))) (sym writer)
+          (subst (λ x. Since (old .fasb) width value (verdict (old .service)) made h st x (slots (new .channel))) (sym reader)
+          (subst (λ x. Since (old .fasb) width value (verdict (old .service)) made h st rd x) (sym channel) since)))),
       ties,
     )
 
@@ -127,8 +127,8 @@ module _
         let went = a .sends (was .1) in
         happened-wrote (offer p) (offering (p ++ value p) st) h old new went
         (since-offer (old .fasb) width value (verdict (old .service)) made (was .0) p (went .sent) sized (leb-true 1 (length p) (long .0)) (leb-true (length p) 2044 (long .1))
-          (none-some (verdict (old .service) p) (yes .1 .1 .0))
-          (leb-true (cond (old .fasb) 1 (length p + width)) (free (st .left) (st .begun)) (yes .1 .1 .1 .0)) (went .each) (went .made-so))
+        (none-some (verdict (old .service) p) (yes .1 .1 .0))
+        (leb-true (cond (old .fasb) 1 (length p + width)) (free (st .left) (st .begun)) (yes .1 .1 .1 .0)) (went .each) (went .made-so))
         (a .leaves) (a .reader-stays) (a .steady) (a .ties (was .1))
     happened-offer token p (Err e) old new a h was = happened-refused (offer p) (offer-number e) (inside e) h old new (a .same) was
 
@@ -169,7 +169,7 @@ module _
     happened-new channel checksum service id fasb new a empty ties =
         let since = since-new (new .fasb) width value (verdict (new .service)) made in
         let base =
-          subst (λ x. Since (new .fasb) width value (verdict (new .service)) made [] x (view (new .reader)) (slots (new .channel))) (sym (a .writer-is))
-          (subst (λ x. Since (new .fasb) width value (verdict (new .service)) made [] idle x (slots (new .channel))) (sym (a .reader-is))
-          (subst (λ x. Since (new .fasb) width value (verdict (new .service)) made [] idle new-reader x) (sym (ap slots (a .channel-is) ∙ empty)) since)) in
+        subst (λ x. Since (new .fasb) width value (verdict (new .service)) made [] x (view (new .reader)) (slots (new .channel))) (sym (a .writer-is))
+        (subst (λ x. Since (new .fasb) width value (verdict (new .service)) made [] idle x (slots (new .channel))) (sym (a .reader-is))
+        (subst (λ x. Since (new .fasb) width value (verdict (new .service)) made [] idle new-reader x) (sym (ap slots (a .channel-is) ∙ empty)) since)) in
         ((base, a .ties ties), since-law fasb width value (verdict (new .service)) made (since-new fasb width value (verdict (new .service)) made) reach sized detects)

@@ -4,6 +4,7 @@ pub mod Asking
 pub mod Numbers
 pub mod Sending
 pub mod Calls
+pub mod Alone
 pub mod Since
 pub mod Happening
 pub mod Carrying

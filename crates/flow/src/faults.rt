@@ -1,4 +1,5 @@
 ghost use mathlib.Core.Path.{_≡_};
+ghost use Rattle.flow.specs.Numbers.{open-number, offer-number, close-number};
 ghost use Rattle.flow.specs.declared.faults.OfferFault.the-variants.{NotServed};
 use crate::token::SuperframeToken;
 use service::service::NotAdmitted;
@@ -12,6 +13,19 @@ pub enum OpenFault {
     FrameCount,
     /// The channel has no room for the frames and the mark.
     NoRoom,
+}
+
+impl OpenFault {
+    /// The number of the question that was answered no.
+    pub fn number(self) -> u8
+        ensures { λ r. ⌜ r ≡ open-number self ⌝ }
+    {
+        match self {
+            OpenFault::AlreadyOpen => 1,
+            OpenFault::FrameCount => 2,
+            OpenFault::NoRoom => 3,
+        }
+    }
 }
 
 /// Why an offer is refused.
@@ -28,6 +42,20 @@ pub enum OfferFault {
     NoSpace,
 }
 
+impl OfferFault {
+    /// The number of the question that was answered no.
+    pub fn number(self) -> u8
+        ensures { λ r. ⌜ r ≡ offer-number self ⌝ }
+    {
+        match self {
+            OfferFault::NotOpenHere => 4,
+            OfferFault::Length => 5,
+            OfferFault::NotServed(_) => 6,
+            OfferFault::NoSpace => 7,
+        }
+    }
+}
+
 pub impl From<NotAdmitted> for OfferFault as OfferFaultFromNotAdmitted {
     ghost converts = { λ e r. r ≡ NotServed e };
 
@@ -40,4 +68,15 @@ pub impl From<NotAdmitted> for OfferFault as OfferFaultFromNotAdmitted {
 pub enum CloseFault {
     /// No superframe is open, or the token is another flow's.
     WrongToken(SuperframeToken),
+}
+
+impl CloseFault {
+    /// The number of the question that was answered no.
+    pub fn number(&self) -> u8
+        ensures { λ r. ⌜ r ≡ close-number (now (self .entry)) ⌝ }
+    {
+        match self {
+            CloseFault::WrongToken(_) => 4,
+        }
+    }
 }

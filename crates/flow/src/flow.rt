@@ -26,12 +26,12 @@ use crate::placing::begin;
 use crate::placing::place;
 use crate::token::SuperframeToken;
 use crate::writer::Writer;
-use receiver::answer::BufferTooShort;
-use receiver::answer::Reading;
-use receiver::reader::Reader;
 use channel::channel::Channel;
 use checksum::checksum::Checksum;
 use framing::judging::PACKET_MAX;
+use receiver::answer::BufferTooShort;
+use receiver::answer::Reading;
+use receiver::reader::Reader;
 use service::service::Service;
 
 /// The most frames that a superframe has.
@@ -113,11 +113,7 @@ impl<C: Channel, K: Checksum, S: Service> Flow<C, K, S> {
     }
 
     /// Whether an offer of this packet would be accepted, and why not.
-    pub fn check_offer(
-        &self,
-        token: &SuperframeToken,
-        packet: &[u8],
-    ) -> Result<(), OfferFault>
+    pub fn check_offer(&self, token: &SuperframeToken, packet: &[u8]) -> Result<(), OfferFault>
         ensures asked { λ r. ⌜ refusal offer-number r ≡ first-no (offer-questions (now (token .entry) .flow) (now (self .entry) .id) (now (self .entry) .fasb) width (verdict (now (self .entry) .service) (now (packet .entry))) (now (packet .entry)) (state-of (now (self .entry) .writer))) ⌝ }
         ensures inside { λ r. ⌜ refused r (λ e. inside e ≡ cond (eqb (offer-number e) 6) (verdict (now (self .entry) .service) (now (packet .entry))) None) ⌝ }
     {

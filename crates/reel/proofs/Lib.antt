@@ -1,10 +1,11 @@
-mod Bits
-mod Counts
-mod Dealing
-mod Format
-mod Maps
-mod Questions
-mod Readings
-mod Reels
-mod Walks
-mod Writing
+pub mod Bits
+pub mod Counts
+pub mod Dealing
+pub mod Format
+pub mod Maps
+pub mod Plays
+pub mod Questions
+pub mod Readings
+pub mod Reels
+pub mod Walks
+pub mod Writing

@@ -10,13 +10,13 @@ use Rattle.std.specs.declared.result.Result.the-variants.{Ok, Err}
 use Rattle.std.specs.shelf.Lists.{All}
 use Rattle.reel.specs.declared.fault.ReelFault.{ReelFault}
 use Rattle.reel.specs.Block.{Superframe, Fits, refusal}
-use Rattle.reel.specs.Parts.{number}
+use Rattle.reel.specs.Parts.{number, toldAs}
 use Rattle.reel.specs.Reel.{reelOf}
 
--- the number of the question answered no, and the place of its block
+-- the number of the question answered no and the place of its block, or nothing
 abbrev pub told : {T : Type 0} → Result T ReelFault → Option (ℕ × ℕ)
 told (Ok _) = None
-told (Err f) = Some (number (f .fault), f .at)
+told (Err f) = Some (toldAs f)
 
 -- The same in the words of the format. Lawful: the reel is the blocks of some superframes, one after the other, and nothing else. Refused: it
 -- begins with such blocks, and behind them, at the place that is told, stands something that answers the question of that number with no.

@@ -23,7 +23,7 @@ abbrev pub total : (Superframe → ℕ) → List Superframe → ℕ
 total f [] = 0
 total f (s ∷ ss) = f s + total f ss
 
--- a count with one superframe more, which has so many frames and gaps and so many frames
+-- a count with one superframe more, which has so many frames, and with its gaps so many slots
 abbrev pub one-more : Contents → ℕ → ℕ → Contents
 one-more c slots frames = record { superframes = c .superframes + 1; frames = c .frames + frames; gaps = c .gaps + (slots - frames) }
 

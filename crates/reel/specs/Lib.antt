@@ -4,6 +4,7 @@ pub mod Checking
 pub mod Counting
 pub mod Laws
 pub mod Parts
+pub mod Playing
 pub mod Recording
 pub mod Reel
 pub mod Walking

@@ -10,6 +10,7 @@ use Rattle.std.specs.declared.result.Result.the-variants.{Ok, Err}
 use Rattle.reel.specs.declared.block.Block.{Block}
 use Rattle.reel.specs.declared.fault.BlockFault.{BlockFault}
 use Rattle.reel.specs.declared.fault.BlockFault.the-variants.{SuperframeSize, Map, Frames}
+use Rattle.reel.specs.declared.fault.ReelFault.{ReelFault}
 use Rattle.reel.specs.Bits.{bits}
 use Rattle.reel.specs.Block.{Superframe, Fits, blockOf, dealt, size, mapPart, framesPart, blockSize, superframe, refusal}
 
@@ -18,6 +19,10 @@ abbrev pub number : BlockFault → ℕ
 number SuperframeSize = 21
 number Map = 22
 number Frames = 23
+
+-- a fault, told by the number of its question and the place of its block
+abbrev pub toldAs : ReelFault → ℕ × ℕ
+toldAs f = (number (f .fault), f .at)
 
 -- what a block holds
 abbrev pub held : Block → Superframe

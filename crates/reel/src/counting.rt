@@ -11,6 +11,7 @@ use crate::fault::ReelFault;
 /// How much a lawful reel holds.
 #[derive(Clone, Copy, PartialEq, Eq, Debug)]
 pub struct Contents {
+    /// The superframes, one a block.
     pub superframes: usize,
     /// The frames that are there.
     pub frames: usize,
@@ -19,7 +20,7 @@ pub struct Contents {
 }
 
 impl Contents {
-    /// The count with one superframe more, which has so many frames and gaps and so many frames.
+    /// The count with one superframe more, which has so many frames, and with its gaps so many slots.
     fn with(self, slots: usize, frames: usize) -> Contents
         requires { ⌜ self .superframes + 1 < 2 ^ 64 ⌝ ∗ ⌜ self .frames + frames < 2 ^ 64 ⌝ ∗ ⌜ frames ≤ slots ⌝ ∗ ⌜ self .gaps + slots < 2 ^ 128 ⌝ }
         ensures { λ r. ⌜ r ≡ one-more self slots frames ⌝ }

@@ -12,6 +12,7 @@ pub enum BlockFault {
 /// Why a reel is not lawful, and where.
 #[derive(Clone, Copy, PartialEq, Eq, Debug)]
 pub struct ReelFault {
+    /// The question that was answered no.
     pub fault: BlockFault,
     /// The place of the first byte of the block, counted from 1.
     pub at: usize,

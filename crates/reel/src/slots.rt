@@ -1,4 +1,5 @@
 ghost use mathlib.Core.Path.{_≡_};
+ghost use mathlib.Core.List.{[]};
 ghost use Prim.Native.Nat.{_/_, _<_};
 ghost use denote.Ref.{now};
 ghost use lib.ListN.{length};
@@ -33,6 +34,20 @@ fn bit(map: &[u8], i: usize) -> bool
     ensures { λ r. ⌜ r ≡ bitAt (now (map .entry)) i ⌝ }
 {
     (map[i / 8] >> (i % 8)) % 2 == 1
+}
+
+impl<'a> Slots<'a> {
+    /// No frame and no gap.
+    pub(crate) fn none() -> Slots<'a>
+        ensures { λ r. ⌜ toCome r ≡ [] ⌝ }
+    {
+        Slots {
+            map: &[],
+            frames: &[],
+            size: 0,
+            passed: 0,
+        }
+    }
 }
 
 impl<'a> Block<'a> {

@@ -1,5 +1,6 @@
 use crate::header::HeaderFault;
 use crate::header::HeaderFaultDebug;
+use crate::header::HeaderFaultPartialEq;
 use crate::header::Kind;
 use crate::header::SyncHeader;
 use crate::header::SyncHeaderDebug;
@@ -45,6 +46,9 @@ fn admits_and_refuses() -> Result<(), Fail> {
 #[test]
 fn writes_and_reads_back() -> Result<(), Fail> {
     let mut out = [0xEE; 9];
+    let short = write_header(&FULL, &[7, 8], &mut out[0..7]);
+    check_eq(short, Err(HeaderFault::BufferLength))?;
+    check_eq(out, [0xEE; 9])?;
     check_eq(write_header(&FULL, &[7, 8], &mut out)?, 8)?;
     check_eq(out, [0x3C, 59, 1, 2, 3, 4, 7, 8, 0xEE])?;
     let packet = read_header(&out[0..8])?;

@@ -1,6 +1,5 @@
 use Rattle.flow.proofs.Happens.{happened-offer}
 use Rattle.flow.proofs.flow.Flow.offer.Needs as need
-
 use mathlib.Core.Path.{refl}
 
 pub returns : need.returns
