@@ -12,9 +12,11 @@ use Rattle.std.specs.Orderings.{Decides}
 use Rattle.std.specs.declared.option.Option.{Option}
 use Rattle.std.specs.declared.option.Option.the-variants.{Some, None}
 use Rattle.std.proofs.shelf.Lists.{take-at, take-rest, length-take-le}
-use Rattle.std.proofs.shelf.Tests.{cases-bool, cond-true, cond-false, eq-eqb, eqb-true, lt-leb, and-from, and-parts, both-ways}
+use Rattle.std.proofs.shelf.Tests.{cases-bool, cond-false, eq-eqb, eqb-true, lt-leb, and-from, and-parts, both-ways}
 use Rattle.receiver.specs.Answering.{Quality, sound, damaged, foreign, Answer, handed-out, same, quality, answered}
-use Rattle.receiver.specs.Readings.{packet-length, filled}
+use Rattle.receiver.specs.Readings.{said, said-length, packet-length, filled}
+use Rattle.receiver.specs.declared.answer.Reading.{Reading}
+use Rattle.receiver.specs.declared.answer.Reading.the-variants.{Sound, Damaged, Foreign}
 
 same-refl : (x : List ℕ) → same x x ≡ true
 same-refl [] = refl
@@ -33,14 +35,11 @@ decides-same : (t : Bool) (x y : List ℕ) → Decides t (x ≡ y) → same x y 
 decides-same true x y d = ap (λ z. same x z) (sym (d .0 refl)) ∙ same-refl x
 decides-same false x y d = elim (cases-bool (same x y)) [ inl e ↦ absurd (both-ways false refl (d .1 (same-true x y e))) | inr e ↦ e ]
 
-pub is-damaged : (value : List ℕ → List ℕ) (refusal : List ℕ → Option ℕ) (p s : List ℕ) (t : Bool) → Decides t (value p ≡ s) → t ≡ false → quality value refusal p s ≡ damaged
-is-damaged value refusal p s t d no-fit = cond-false (same (value p) s) _ _ (decides-same t (value p) s d ∙ no-fit)
-
--- where it fits, the service decides
-pub is-served : (value : List ℕ → List ℕ) (refusal : List ℕ → Option ℕ) (p s : List ℕ) (t : Bool) (o : Option ℕ) → Decides t (value p ≡ s) → t ≡ true → o ≡ refusal p
-    → quality value refusal p s ≡ elim o [ None ↦ sound | Some n ↦ foreign n ]
-is-served value refusal p s t o d fit served =
-    cond-true (same (value p) s) _ _ (decides-same t (value p) s d ∙ fit) ∙ ap (λ v. elim v [ None ↦ sound | Some n ↦ foreign n ]) (sym served)
+-- damaged where it does not fit, and else as the service has it
+pub is-quality : (value : List ℕ → List ℕ) (refusal : List ℕ → Option ℕ) (p s : List ℕ) (t : Bool) (o : Option ℕ) → Decides t (value p ≡ s) → o ≡ refusal p
+    → quality value refusal p s ≡ cond t (elim o [ None ↦ sound | Some n ↦ foreign n ]) damaged
+is-quality value refusal p s t o d served =
+    ap₂ (λ (b : Bool) (v : Option ℕ). cond b (elim v [ None ↦ sound | Some n ↦ foreign n ]) damaged) (decides-same t (value p) s d) (sym served)
 
 -- a packet of quality q was written to the front of the buffer
 pub record Handed (answer : Answer) (q : Quality) (len : ℕ) (old new : List ℕ) : Type 0 where
@@ -79,3 +78,13 @@ pub tested : (value : List ℕ → List ℕ) (b : List ℕ) (len : ℕ) (t : Boo
 tested value b len t d =
     subst (λ (s : List ℕ). Decides t (value (take len b) ≡ s)) (take-rest b len)
     (subst (λ (k : ℕ). Decides t (value (take k b) ≡ take (length b - len) (drop len b))) (sub-zero len) d)
+
+-- the answer by its name
+abbrev named : Bool → Option ℕ → ℕ → Reading
+named t o len = cond t (elim o [ None ↦ Sound len | Some n ↦ Foreign n len ]) (Damaged len)
+
+pub says : (t : Bool) (o : Option ℕ) (len : ℕ) (new : List ℕ)
+    → (said (named t o len) new ≡ handed-out (cond t (elim o [ None ↦ sound | Some n ↦ foreign n ]) damaged) (take len new)) × (said-length (named t o len) ≡ Some len)
+says false o len new = (refl, refl)
+says true None len new = (refl, refl)
+says true (Some n) len new = (refl, refl)

@@ -5,11 +5,14 @@ ghost use Rattle.receiver.specs.Folding.{Folds};
 ghost use Rattle.receiver.specs.Reading.{gathered as openBytes, dropped as heldBytes, seeking, next-number, after-mark, dropped-at-mark, new-reader, reading};
 ghost use Rattle.receiver.specs.Telling.{told-by, Received, Ends, Fitting};
 ghost use Rattle.receiver.specs.Views.{view, standing-of, hand-in, unread-from, Rests};
+ghost use Rattle.std.specs.declared.option.Option.the-variants.{None};
+ghost use Rattle.receiver.specs.declared.told.Told.the-variants.{Torn as TornFrame};
 use crate::reader::Reader;
 use crate::state::READ_OUT;
 use crate::state::State;
 use crate::told::Told;
 use channel::channel::Channel;
+use framing::fault::Torn;
 use framing::frame::Frame;
 use framing::judging::judge;
 use framing::slot::Slot;
@@ -92,8 +95,22 @@ impl Reader {
         dropped
     }
 
-    /// Takes a lawful frame in hand.
-    fn hold(&mut self, frame: Frame)
+    /// A frame is torn, which counts as a gap.
+    fn tear(&mut self, torn: Torn) -> Told
+        ensures tells { λ r. ⌜ r ≡ TornFrame (next-number (now (self .entry) .number)) (heldBytes (standing-of (now (self .entry)))) torn ⌝ }
+        ensures after { λ _. ⌜ view (now (self .exit)) ≡ record { standing = seeking; number = next-number (now (self .entry) .number); in-hand = [] } ⌝ }
+    {
+        let (frame, dropped) = self.lose();
+        Told::Torn {
+            frame,
+            dropped,
+            torn,
+        }
+    }
+
+    /// Takes a lawful frame in hand, of which there is nothing to tell yet.
+    fn hold(&mut self, frame: Frame) -> Option<Told>
+        ensures quiet { λ r. ⌜ r ≡ None ⌝ }
         ensures same { λ _. ⌜ standing-of (now (self .exit)) ≡ standing-of (now (self .entry)) ⌝ }
         ensures counts { λ _. ⌜ now (self .exit) .number ≡ next-number (now (self .entry) .number) ⌝ }
         ensures holds { λ _. ⌜ (now (self .exit) .frame ≡ frame) × Rests (now (self .exit) .state) 0 ⌝ }
@@ -103,6 +120,7 @@ impl Reader {
         if let State::Aligned { .. } = self.state {
             self.state = State::Aligned { next: 0 };
         }
+        None
     }
 
     /// Takes a slot, with nothing in hand: tells what there is to tell of it, or takes a lawful frame in hand. A torn frame
@@ -120,18 +138,10 @@ impl Reader {
                 let (frame, dropped) = self.lose();
                 Some(Told::Lost { frame, dropped })
             }
-            Slot::Frame(frame) => {
-                if let Err(torn) = judge(&frame, self.open_len(), width) {
-                    let (frame, dropped) = self.lose();
-                    return Some(Told::Torn {
-                        frame,
-                        dropped,
-                        torn,
-                    });
-                }
-                self.hold(frame);
-                None
-            }
+            Slot::Frame(frame) => match judge(&frame, self.open_len(), width) {
+                Ok(()) => self.hold(frame),
+                Err(torn) => Some(self.tear(torn)),
+            },
         }
     }
 
