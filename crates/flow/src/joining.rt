@@ -18,9 +18,6 @@ pub(crate) fn with_checksum(packet: &[u8], value: [u8; 4], width: usize) -> [u8;
     requires { ⌜ length (now packet) ≤ 2044 ⌝ ∗ ⌜ width ≤ 4 ⌝ }
     ensures { λ r. ⌜ take (length (now (packet .entry)) + width) r ≡ now (packet .entry) ++ take width value ⌝ }
 {
-    with_part(
-        with_part([0; 2048], 0, packet),
-        packet.len(),
-        &value[0..width],
-    )
+    let check = &value[0..width];
+    with_part(with_part([0; 2048], 0, packet), packet.len(), check)
 }
