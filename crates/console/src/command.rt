@@ -9,6 +9,8 @@ pub enum Command<'a> {
     Verify { reel: &'a str },
     /// Every superframe and frame of the reel, with its fragments.
     Frames { reel: &'a str },
+    /// A sync header, from hex digits, in words.
+    Header { digits: &'a str },
     /// What the program can do.
     Help,
     /// Which program this is.
@@ -22,6 +24,7 @@ pub enum CommandFault<'a> {
     Unknown(&'a str),
     UnknownOption(&'a str),
     NoReel(&'a str),
+    NoDigits,
     TooMany(&'a str),
 }
 
@@ -32,6 +35,7 @@ pub impl fmt::Display for CommandFault<'_> as CommandFaultDisplay {
             CommandFault::Unknown(word) => write!(f, "there is no command {word}"),
             CommandFault::UnknownOption(word) => write!(f, "there is no option {word}"),
             CommandFault::NoReel(word) => write!(f, "{word} wants the name of a reel"),
+            CommandFault::NoDigits => f.write_str("header wants the hex digits of a packet"),
             CommandFault::TooMany(word) => write!(f, "{word} is one word too many"),
         }
     }
@@ -62,6 +66,13 @@ pub fn parse(words: &[String]) -> Result<Command<'_>, CommandFault<'_>> {
         "frames" => Ok(Command::Frames {
             reel: one_reel("frames", rest)?,
         }),
+        "header" => match rest {
+            [] => Err(CommandFault::NoDigits),
+            [digits] => Ok(Command::Header {
+                digits: digits.as_str(),
+            }),
+            [_, second, ..] => Err(CommandFault::TooMany(second.as_str())),
+        },
         "--help" | "-h" | "help" => Ok(Command::Help),
         "--version" => Ok(Command::Version),
         other => Err(CommandFault::Unknown(other)),
@@ -74,6 +85,7 @@ pub const HELP: &str =
 
   rothveam verify REEL    is the reel lawful? How many superframes, frames and gaps it has, or its first fault
   rothveam frames REEL    every superframe and frame, with its fragments; gaps and torn frames are shown as such
+  rothveam header HEX     what the sync header says that a packet, given in hex digits, begins with
   rothveam --help         this text
   rothveam --version      the version
 

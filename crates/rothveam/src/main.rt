@@ -6,6 +6,8 @@ use console::command::VERSION;
 use console::command::parse;
 use console::frames::SuperframeReport;
 use console::frames::SuperframeReportDisplay;
+use console::header::HeaderReport;
+use console::header::HeaderReportDisplay;
 use console::verify::Findings;
 use console::verify::VerifyReport;
 use console::verify::VerifyReportDisplay;
@@ -71,6 +73,10 @@ fn run(rt: &LibcRuntime) -> Result<(), AnyError> {
     match parse(words.as_slice()) {
         Ok(Command::Verify { reel }) => verify(rt, reel, load(rt, reel)?.as_slice()),
         Ok(Command::Frames { reel }) => frames(rt, reel, load(rt, reel)?.as_slice()),
+        Ok(Command::Header { digits }) => {
+            rt.print(HeaderReport { digits })?;
+            Ok(())
+        }
         Ok(Command::Help) => {
             rt.print(HELP)?;
             Ok(())
