@@ -25,6 +25,9 @@ pub record BodiesOnly (frame came : List ℕ) : Type 0 where
   pub size : length came ≡ length frame
   pub same : (i : ℕ) → in-body (fragments frame) i ≡ false → getD came i 0 ≡ getD frame i 0
 
+-- A run is fair where the channel began empty, served this flow alone, and lost frames or changed bodies only. That it began
+-- empty is a premise of a flow's set-up; that it served this flow alone is in the type, since the flow holds its channel.
+-- What is left to say is this.
 abbrev pub Fair : List Sent → Type 0
 Fair [] = Unit {0}
 Fair (sent-mark ∷ s) = Fair s

@@ -27,7 +27,7 @@ FirstOfWaiting put (p ∷ more) = FirstPart put p
 
 -- The frames put carry the accepted packets in the order offered, each followed by its checksum: of these, those that are
 -- all put come first, group by group, and then those that wait to be, of which one may have begun. That is so in every
--- run, fair or not. A closing leaves none waiting, but for the one packet that may cross superframes.
+-- run over a channel that began empty, fair or not. A closing leaves none waiting, but for the one packet that may cross superframes.
 pub record CarriesPackets (fasb : Bool) (value : List ℕ → List ℕ) (h : History) : Type 0 where
   pub waiting : List (List ℕ)
   pub carried : map (λ p. p ++ value p) (packets-accepted h) ≡ map as-cut (groups fasb [] (all-sent h)) ++ waiting
