@@ -1,4 +1,6 @@
 //! Frames of the mobile broadcast: 122 bytes, a row of fragments.
+#![tactic(auto)]
+
 pub mod fault;
 pub mod fragments;
 pub mod frame;

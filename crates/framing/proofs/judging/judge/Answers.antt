@@ -13,8 +13,8 @@ returns-in-Some c =
 pub loop-at-preserved : goal.loop-at-preserved
 loop-at-preserved c =
     let whole : length c.args.frame.now.bytes ≡ 122 = omega arith in
-    ap (λ n. (judgment_of c.args.width c.args.gathered (headers_from (c.loop-at.at + (1 + n) + 1) 0 (drop (c.loop-at.at + (1 + n)) c.args.frame.now.bytes))).verdict) c.from-byte.ensures.0
-    ∙ sym (judged_at c.args.width c.args.gathered c.args.frame.now.bytes c.loop-at.at None whole c.loop-at-test.true c.in-default.ensures)
+    ap (λ n. (judgment_of c.args.width c.args.gathered (headers_from (c.loop-at.at + (1 + n) + 1) 0 (drop (c.loop-at.at + (1 + n)) c.args.frame.now.bytes))).verdict) c.from_byte.ensures.0
+    ∙ sym (judged_at c.args.width c.args.gathered c.args.frame.now.bytes c.loop-at.at None whole c.loop-at-test.true c.in_default.ensures)
     ∙ c.loop-at.invariant
 
 pub returns : goal.returns

@@ -4,9 +4,9 @@ use Rattle.framing.proofs.fragments.Fragments.of.Goals as goal
 
 pub returns : goal.returns
 returns c =
-    let fit : Bytes c.args.bytes.now = λ k below. (c.type-inv.bytes k).fits in
+    let fit : Bytes c.args.bytes.now = λ k below. (c.type_inv.bytes k).fits in
     record {
-      asks = c.from-first.ensures.asks;
-      gives = c.from-first.ensures.gives;
-      again = frame_again c.from-first.result c.args.bytes.now fit c.from-first.ensures.asks;
+      asks = c.from_first.ensures.asks;
+      gives = c.from_first.ensures.gives;
+      again = frame_again c.from_first.result c.args.bytes.now fit c.from_first.ensures.asks;
     }

@@ -20,10 +20,10 @@ returns-in-127 c =
     let frame = c.args.self.now.bytes.now in
     let here : at < length frame = omega arith in
     let padded : count_of (get_or frame at 0) ≡ 127 = omega arith in
-    let clipped : c.body-end-end.result ≡ at + 1 + min (count_of (get_or frame at 0)) (length frame - (at + 1)) = omega arith in
+    let clipped : c.body_end-end.result ≡ at + 1 + min (count_of (get_or frame at 0)) (length frame - (at + 1)) = omega arith in
     let comes =
-    next_coming frame at c.body-end-end.result here clipped
-    ∙ ap (λ f. f ∷ from_index frame c.body-end-end.result) (padding_is (at + 1) (get_or frame at 0) (drop (at + 1) frame) padded) in
+    next_coming frame at c.body_end-end.result here clipped
+    ∙ ap (λ f. f ∷ from_index frame c.body_end-end.result) (padding_is (at + 1) (get_or frame at 0) (drop (at + 1) frame) padded) in
     record { steps = (comes, refl); goes = firm ((tt, tt, omega (arith, ap (λ (x : List Fragment). length x) comes))) (λ h. search rules) }
 
 pub returns-in-0 : goal.returns-in-0
@@ -32,25 +32,25 @@ returns-in-0 c =
     let frame = c.args.self.now.bytes.now in
     let here : at < length frame = omega arith in
     let none : count_of (get_or frame at 0) ≡ 0 = omega arith in
-    let clipped : c.body-end-end.result ≡ at + 1 + min (count_of (get_or frame at 0)) (length frame - (at + 1)) = omega arith in
+    let clipped : c.body_end-end.result ≡ at + 1 + min (count_of (get_or frame at 0)) (length frame - (at + 1)) = omega arith in
     let comes =
-    next_coming frame at c.body-end-end.result here clipped
-    ∙ ap (λ f. f ∷ from_index frame c.body-end-end.result) (notional_is (at + 1) (get_or frame at 0) (drop (at + 1) frame) none) in
+    next_coming frame at c.body_end-end.result here clipped
+    ∙ ap (λ f. f ∷ from_index frame c.body_end-end.result) (notional_is (at + 1) (get_or frame at 0) (drop (at + 1) frame) none) in
     record { steps = (comes, refl); goes = firm ((tt, tt, omega (arith, ap (λ (x : List Fragment). length x) comes))) (λ h. search rules) }
 
-pub returns-in-default : goal.returns-in-default
-returns-in-default c =
+pub returns-in_default : goal.returns-in_default
+returns-in_default c =
     let at : ℕ = c.args.self.now.at in
     let frame = c.args.self.now.bytes.now in
     let here : at < length frame = omega arith in
     let n : ℕ = count_of (get_or frame at 0) in
-    let clipped : c.body-end-end.result ≡ at + 1 + min (count_of (get_or frame at 0)) (length frame - (at + 1)) = omega arith in
+    let clipped : c.body_end-end.result ≡ at + 1 + min (count_of (get_or frame at 0)) (length frame - (at + 1)) = omega arith in
     let size : length (drop (at + 1) frame) ≡ length frame - (at + 1) = length-drop (at + 1) frame in
-    let inside : c.body-end-end.result - (at + 1) ≡ min (count_of (get_or frame at 0)) (length (drop (at + 1) frame)) = omega arith in
+    let inside : c.body_end-end.result - (at + 1) ≡ min (count_of (get_or frame at 0)) (length (drop (at + 1) frame)) = omega arith in
     let comes =
-    next_coming frame at c.body-end-end.result here clipped
-    ∙ ap (λ f. f ∷ from_index frame c.body-end-end.result)
+    next_coming frame at c.body_end-end.result here clipped
+    ∙ ap (λ f. f ∷ from_index frame c.body_end-end.result)
     (body_is (at + 1) (get_or frame at 0) (drop (at + 1) frame) (λ p. omega arith) (λ z. omega arith)
-    ∙ ap (λ b. body (at + 1) b (last_of (get_or frame at 0))) (take_clipped (drop (at + 1) frame) n (c.body-end-end.result - (at + 1)) inside)
-    ∙ sym (ap (λ l. body (at + 1) (take (c.body-end-end.result - (at + 1)) (drop (at + 1) frame)) l) c.from-byte-header.ensures.1)) in
+    ∙ ap (λ b. body (at + 1) b (last_of (get_or frame at 0))) (take_clipped (drop (at + 1) frame) n (c.body_end-end.result - (at + 1)) inside)
+    ∙ sym (ap (λ l. body (at + 1) (take (c.body_end-end.result - (at + 1)) (drop (at + 1) frame)) l) c.from_byte-header.ensures.1)) in
     record { steps = (comes, refl); goes = firm ((tt, tt, omega (arith, ap (λ (x : List Fragment). length x) comes))) (λ h. search rules) }
