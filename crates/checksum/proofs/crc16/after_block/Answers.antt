@@ -21,5 +21,5 @@ returns c =
     = cc
     in
     looked_up
-    ∙ sym (block r (b 0) (b 1) w (search rules) (subst Bytes listed (λ k h. (c.type-inv.block k).fits)))
+    ∙ sym (block r (b 0) (b 1) w (search rules) (subst Bytes listed (λ k h. search (rules, c.type_inv.block k))))
     ∙ ap (λ (t : List ℕ). feed r (bits t)) (sym listed)

@@ -15,18 +15,18 @@ done s i r h = rw (drop_of_length-le s h)
 
 pub loop-rest-preserved : goal.loop-rest-preserved
 loop-rest-preserved c =
-    let block = c.split-at.result.0.now in
-    let later = c.split-at.result.1.now in
-    ap (λ (n : ℕ). feed n (bits later)) c.after-block-state.ensures
+    let block = c.split_at.result.0.now in
+    let later = c.split_at.result.1.now in
+    ap (λ (n : ℕ). feed n (bits later)) c.after_block-state.ensures
     ∙ sym (feed_then block later c.loop-rest.state)
-    ∙ ap (λ (s : List ℕ). feed c.loop-rest.state (bits s)) (sym c.split-at.ensures.by_index.0)
+    ∙ ap (λ (s : List ℕ). feed c.loop-rest.state (bits s)) (sym c.split_at.ensures.by_index.0)
     ∙ c.loop-rest.invariant
 
 pub loop-byte-preserved : goal.loop-byte-preserved
 loop-byte-preserved c =
     let s = c.loop-rest.rest.now in
     let i = c.loop-byte.byte-index in
-    ap (λ (n : ℕ). feed n (bits (drop (i + 1) s))) c.after-byte-state.ensures
+    ap (λ (n : ℕ). feed n (bits (drop (i + 1) s))) c.after_byte-state.ensures
     ∙ more s i c.loop-byte.state c.loop-byte-test.true
     ∙ c.loop-byte.invariant
 

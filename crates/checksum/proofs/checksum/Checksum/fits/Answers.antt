@@ -14,10 +14,10 @@ pub returns : goal.returns
 returns g c =
     let m : List ℕ = c.args.message.now in
     let v : List ℕ = c.args.received.now in
-    let expected : List ℕ = take (c.value-len-width.result - 0) c.value-of-computed.result in
+    let expected : List ℕ = take (c.value_len-width.result - 0) c.value_of-computed.result in
     let front : expected ≡ g.Self.Checksum.value m =
-    ap (λ (n : ℕ). take n c.value-of-computed.result) (sub-zero c.value-len-width.result ∙ c.value-len-width.ensures)
-    ∙ c.value-of-computed.ensures.front
+    ap (λ (n : ℕ). take n c.value_of-computed.result) (sub-zero c.value_len-width.result ∙ c.value_len-width.ensures)
+    ∙ c.value_of-computed.ensures.front
     in
     let decides : Decides c.eq.result (expected ≡ v) = slice_eq-Decides Decides-eqb expected v c.eq.result c.eq.ensures in
     record {

@@ -6,8 +6,8 @@ use Rattle.checksum.proofs.crc16.Crc16.check_value.Goals as goal
 pub returns : goal.returns
 unfolding step_by feed_by
 returns c =
-    let whole : c.register-of.result ≡ 0x29B1 = c.register-of.ensures ∙ ap register c.digits.ensures in
-    let value : c.to-be-bytes.result ≡ 0x29 ∷ 0xB1 ∷ [] =
-    c.to-be-bytes.ensures ∙ ap (λ (n : ℕ). n / 256 % 256 ∷ n % 256 ∷ []) whole
+    let whole : c.register_of.result ≡ 0x29B1 = c.register_of.ensures ∙ ap register c.digits.ensures in
+    let value : c.to_be_bytes.result ≡ 0x29 ∷ 0xB1 ∷ [] =
+    c.to_be_bytes.ensures ∙ ap (λ (n : ℕ). n / 256 % 256 ∷ n % 256 ∷ []) whole
     in
     record { digits = value; value = value }

@@ -7,7 +7,7 @@ use Rattle.checksum.proofs.crc16.Crc16.undetected_pair.Goals as goal
 pub returns : goal.returns
 unfolding step_by feed_by
 returns c =
-    let other : c.generator-bits.result ≡ 0x01 ∷ 0x10 ∷ 0x21 ∷ [] = c.generator-bits.ensures in
+    let other : c.generator_bits.result ≡ 0x01 ∷ 0x10 ∷ 0x21 ∷ [] = c.generator_bits.ensures in
     record {
       pair = ap (λ (m : List ℕ). (three_zeros, m)) other;
       one_value = ap crc16 other;

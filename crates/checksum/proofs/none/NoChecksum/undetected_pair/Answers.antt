@@ -11,5 +11,5 @@ returns c =
     record {
       pair = pair;
       one_bit = subst (λ (p : List ℕ × List ℕ). ChangedInOneStretch 1 (bits p.0) (bits p.1)) (sym pair) (one_bit 1 (lit≤ tt) []);
-      no-reach = fits_everything;
+      no_reach = fits_everything;
     }
