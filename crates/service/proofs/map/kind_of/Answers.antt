@@ -12,5 +12,5 @@ returns-in-1 c = let low = and_mask c.args.byte 2 in grind (arith, nat_tests)
 pub returns-in-2 : goal.returns-in-2
 returns-in-2 c = let low = and_mask c.args.byte 2 in grind (arith, nat_tests)
 
-pub returns-in-default : goal.returns-in-default
-returns-in-default c = let low = and_mask c.args.byte 2 in grind (arith, nat_tests)
+pub returns-in_default : goal.returns-in_default
+returns-in_default c = let low = and_mask c.args.byte 2 in grind (arith, nat_tests)

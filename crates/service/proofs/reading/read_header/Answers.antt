@@ -6,11 +6,11 @@ use Rattle.service.proofs.reading.read_header.Goals as goal
 pub returns : goal.returns
 returns c =
     let s = c.args.packet.now in
-    let is = c.take-apart.ensures in
+    let is = c.take_apart.ensures in
     record {
       answer = is;
       exact = λ h payload. (
-        (λ e. read_spelled s (λ k _. (c.type-inv.packet k).fits) h payload (sym is ∙ e)),
+        (λ e. read_spelled s (λ k _. (c.type_inv.packet k).fits) h payload (sym is ∙ e)),
         (λ sp. is ∙ spelled_read s h payload sp),
       );
       one_meaning = one_meaning s;

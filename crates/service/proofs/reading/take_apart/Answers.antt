@@ -13,15 +13,15 @@ pub returns : goal.returns
 returns c =
     let s : List ℕ = c.args.packet.now in
     let byte = get_or s 0 0 in
-    let m = c.of-byte-map.result in
+    let m = c.of_byte-map.result in
     let some : 1 ≤ length s = omega arith in
     let e₇ : bit 7 byte ≡ false = cc in
     let e₈ : bit 8 byte ≡ false = cc in
     let fits : header_length m < length s = omega arith in
     let fields : AllYes (field_questions (facts_within m s)) =
-    sym (ap (λ (h : SyncHeader). ask (field_questions h) (tt {0})) c.facts-in-header.ensures)
-    ∙ sym c.in-ok-check-fields.ensures in
-    let yes = read_yes byte m s some e₇ e₈ (sym c.in-ok-check.ensures) fits fields in
-    let payload = take_rest s c.header-len-start.result ∙ ap (λ (n : ℕ). drop n s) c.header-len-start.ensures in
-    let mapped = ap (λ (m : HeaderMap). read_by byte m s) c.of-byte-map.ensures in
+    sym (ap (λ (h : SyncHeader). ask (field_questions h) (tt {0})) c.facts_in-header.ensures)
+    ∙ sym c.in_ok-check_fields.ensures in
+    let yes = read_yes byte m s some e₇ e₈ (sym c.in_ok-check.ensures) fits fields in
+    let payload = take_rest s c.header_len-start.result ∙ ap (λ (n : ℕ). drop n s) c.header_len-start.ensures in
+    let mapped = ap (λ (m : HeaderMap). read_by byte m s) c.of_byte-map.ensures in
     cc

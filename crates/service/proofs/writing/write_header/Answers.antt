@@ -6,10 +6,10 @@ returns c =
     let h = c.args.header.now in
     let p = c.args.payload.now in
     let old = c.args.out.now in
-    let put = c.put-packet.ensures in
+    let put = c.put_packet.ensures in
     record {
       answer = put.answer;
       buffer = put.buffer;
-      reads_back = reads_back c.put-packet.result h p old c.put-packet.new.out put.answer put.buffer put.fits;
-      rewrites = rewrites c.put-packet.result h p old c.put-packet.new.out put.answer put.buffer;
+      reads_back = reads_back c.put_packet.result h p old c.put_packet.new.out put.answer put.buffer put.fits;
+      rewrites = rewrites c.put_packet.result h p old c.put_packet.new.out put.answer put.buffer;
     }

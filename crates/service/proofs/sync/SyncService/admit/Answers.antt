@@ -6,5 +6,5 @@ returns c =
     let is = c.judge.ensures in
     record {
       answer = is;
-      exact = admits_exactly c.args.packet.now (λ k _. (c.type-inv.packet k).fits) _ is;
+      exact = admits_exactly c.args.packet.now (λ k _. (c.type_inv.packet k).fits) _ is;
     }
