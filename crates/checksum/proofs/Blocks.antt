@@ -1,6 +1,6 @@
 -- Several bytes at once: what each of them adds to the register is looked up for as many zero bytes as follow it.
 -- Assumes nothing.
-use Rattle.std.proofs.Common.{◌≡◌, ℕ, suc, ◌+◌, ◌*◌, ◌/◌, ◌%◌, ◌<◌, List, [], ◌∷◌, length, sym, refl, ap, ◌∙◌, ap₂, zero-add, arith}
+use Rattle.std.proofs.Common.{◌≡◌, ℕ, suc, ◌+◌, ◌*◌, ◌/◌, ◌%◌, ◌<◌, List, [], ◌∷◌, length, refl, ap, ◌∙◌, ap₂, zero-add, arith}
 use lib.Bits.{bit_xor}
 use Rattle.checksum.specs.Stretch.{Bytes, byte_bits, bits}
 use Rattle.checksum.specs.Crc16.{feed_by, feed}

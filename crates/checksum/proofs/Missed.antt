@@ -1,7 +1,7 @@
 -- Changes that are not detected: 17 bits under CRC-16, and one bit where every value fits. Assumes nothing.
-use Rattle.std.proofs.Common.{◌≡◌, ℕ, ◌≤◌, Bool, true, false, List, [], ◌∷◌, ◌++◌, replicate, sym, refl, ap, true≢false, lit≤}
+use Rattle.std.proofs.Common.{ℕ, ◌≤◌, Bool, true, false, List, [], ◌∷◌, ◌++◌, replicate, sym, refl, ap, true≢false, lit≤}
 use Rattle.checksum.specs.Stretch.{ChangedInOneStretch, bits}
-use Rattle.checksum.specs.Detection.{Detects, FitsEverything, FitsEverythingDetectsNothing}
+use Rattle.checksum.specs.Detection.{Detects, FitsEverythingDetectsNothing}
 use Rattle.checksum.specs.Crc16.{step_by, feed_by, crc16}
 
 -- the first bit of a row

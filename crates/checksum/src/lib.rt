@@ -1,5 +1,6 @@
 //! Checksums of byte strings: what a checksum promises, and two of them.
 #![tactic(auto)]
+
 pub mod checksum;
 pub mod crc16;
 pub mod none;
