@@ -23,9 +23,9 @@ pub struct Fade<C> {
 impl<C: Channel> Fade<C> {
     /// A fade over this channel, where the next frame or gap is number 0.
     pub fn over(channel: C, pattern: FadePattern) -> Fade<C>
-        ensures waits { fade_slots slots result ≡ faded (shown pattern) 0 (slots channel) }
-        ensures free { fade_space space result ≡ space channel }
-        ensures tied { tied channel → FadeTied tied result }
+        ensures waits { fade_slots C.slots result ≡ faded (shown pattern) 0 (C.slots channel) }
+        ensures free { fade_space C.space result ≡ C.space channel }
+        ensures tied { C.tied channel → FadeTied C.tied result }
         ensures exact { (result.channel ≡ channel) × (result.pattern ≡ pattern) × (result.number ≡ 0) }
     {
         Fade {
@@ -49,8 +49,8 @@ impl<C: Channel> Fade<C> {
 
     /// Puts a frame or a mark on the channel below.
     fn put_below(&mut self, item: &Outgoing) -> Result<(), Full>
-        ensures answers { PutAnswer (fade_slots slots) (fade_space space) (Fades made) (FadeTied tied) (as_put item.now) result self.old self.new }
-        ensures exact { PutBelow slots space made tied (as_put item.now) result self.old self.new }
+        ensures answers { PutAnswer (fade_slots C.slots) (fade_space C.space) (Fades C.made) (FadeTied C.tied) (as_put item.now) result self.old self.new }
+        ensures exact { PutBelow C.slots C.space C.made C.tied (as_put item.now) result self.old self.new }
     {
         put_one(&mut self.channel, item)
     }

@@ -1,4 +1,6 @@
 //! Channels: where the frames of a broadcast wait between the sender and the receiver.
+#![tactic(auto)]
+
 pub mod channel;
 pub mod fade;
 pub mod pattern;

@@ -15,7 +15,7 @@ pub enum Outgoing {
 
 /// Puts a frame or a mark, whichever is handed in.
 pub fn put_one<C: Channel>(channel: &mut C, item: &Outgoing) -> Result<(), Full>
-    ensures { PutAnswer slots space made tied (as_put item.now) result channel.old channel.new }
+    ensures { PutAnswer C.slots C.space C.made C.tied (as_put item.now) result channel.old channel.new }
 {
     match item {
         Outgoing::Frame(frame) => channel.put_frame(frame),
@@ -25,8 +25,8 @@ pub fn put_one<C: Channel>(channel: &mut C, item: &Outgoing) -> Result<(), Full>
 
 /// Puts these in their order for as long as there is room, and gives how many were put.
 pub fn put_all<C: Channel>(channel: &mut C, items: &[Outgoing]) -> usize
-    ensures counts { result ≡ min (length items.now) (space channel.old) }
-    ensures puts { AllPut slots space made tied (take result items.now) channel.old channel.new }
+    ensures counts { result ≡ min (length items.now) (C.space channel.old) }
+    ensures puts { AllPut C.slots C.space C.made C.tied (take result items.now) channel.old channel.new }
 {
     for (i, item) in items.iter().enumerate() {
         if put_one(channel, item).is_err() {

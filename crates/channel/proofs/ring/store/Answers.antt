@@ -12,14 +12,14 @@ returns-in-Frame c =
     let memory = c.args.memory.now in
     let place = c.args.place in
     let fits : place * 123 + 123 ≤ length memory = place_fits memory place c.requires in
-    let size : length c.copy-from-slice.new.self ≡ 122 = c.copy-from-slice.ensures.len ∙ search (rules, places) in
-    let copied : c.copy-from-slice.new.self ≡ c.in-Frame.frame.bytes = c.copy-from-slice.ensures.after in
+    let size : length c.copy_from_slice.new.self ≡ 122 = c.copy_from_slice.ensures.len ∙ search (rules, places) in
+    let copied : c.copy_from_slice.new.self ≡ c.in-Frame.frame.bytes = c.copy_from_slice.ensures.after in
     record {
       holds =
-          frame_read memory place c.copy-from-slice.new.self c.requires size
+          frame_read memory place c.copy_from_slice.new.self c.requires size
           ∙ ap (λ (b : List ℕ). Frame (record { bytes = b })) copied
           ∙ sym (ap as_slot c.in-Frame.is);
-      elsewhere = only_frame memory place c.copy-from-slice.new.self c.requires size;
+      elsewhere = only_frame memory place c.copy_from_slice.new.self c.requires size;
     }
 
 pub returns-in-Mark : goal.returns-in-Mark

@@ -10,7 +10,7 @@ returns-then-passes g c =
     let bits = c.bits.ensures.count in
     record {
       gives = through_set pattern number c.bits.result c.args.slot bits c.if-passes.ensures;
-      counts = next_kept pattern number c.bits.result c.args.slot bits c.in-default.not-Mark;
+      counts = next_kept pattern number c.bits.result c.args.slot bits c.in_default.not-Mark;
       same = (refl {a = c.args.self.now.channel}, refl {a = c.args.self.now.pattern});
     }
 
@@ -20,7 +20,7 @@ returns-else-passes g c =
     let number = c.args.self.now.number in
     let bits = c.bits.ensures.count in
     record {
-      gives = through_clear pattern number c.bits.result c.args.slot bits c.in-default.not-Mark c.if-passes.ensures;
-      counts = next_kept pattern number c.bits.result c.args.slot bits c.in-default.not-Mark;
+      gives = through_clear pattern number c.bits.result c.args.slot bits c.in_default.not-Mark c.if-passes.ensures;
+      counts = next_kept pattern number c.bits.result c.args.slot bits c.in_default.not-Mark;
       same = (refl {a = c.args.self.now.channel}, refl {a = c.args.self.now.pattern});
     }

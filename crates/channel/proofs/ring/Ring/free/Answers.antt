@@ -3,8 +3,8 @@ use Rattle.channel.specs.Rings.{capacity, slot_at}
 use Rattle.channel.proofs.Rounds.{length_round}
 use Rattle.channel.proofs.ring.Ring.free.Goals as goal
 
-pub overflow-sub-result : goal.overflow-sub-result
-overflow-sub-result c =
+pub overflow_sub-result : goal.overflow_sub-result
+overflow_sub-result c =
     let old = c.args.self.now in
     let size = capacity old.memory.now in
     let is : c.capacity.result ≡ size = c.capacity.ensures in

@@ -9,8 +9,8 @@ use Rattle.channel.proofs.ring.Ring.push.Goals as goal
 pub place-place-requires : goal.place-place-requires
 place-place-requires c = has_place c.args.self.now (omega arith)
 
-pub overflow-add-self : goal.overflow-add-self
-overflow-add-self c = let below = has_place c.args.self.now (omega arith) in omega arith
+pub overflow_add-self : goal.overflow_add-self
+overflow_add-self c = let below = has_place c.args.self.now (omega arith) in omega arith
 
 pub returns : goal.returns
 returns c =
