@@ -45,7 +45,7 @@ fn writes_and_reads_back(rt: HostRuntime) -> Result<(), Fail> {
     assert_eq!(rt; out, [0x3C, 59, 1, 2, 3, 4, 7, 8, 0xEE]);
     let packet = read_header(&out[0..8])?;
     assert_eq!(rt; packet.header, FULL);
-    assert!(rt; packet.payload == [7, 8]);
+    assert!(rt; packet.payload == [7, 8].as_slice());
     Ok(())
 }
 
