@@ -2,7 +2,7 @@ ghost use Rattle.std.specs.Prelude.{◌≡◌, ℕ, List};
 ghost use Rattle.framing.specs.declared.slot.Slot.{Slot};
 ghost use Rattle.channel.specs.Answers.{PutAnswer, TakeAnswer};
 ghost use Rattle.channel.specs.Asking.{waiting};
-ghost use Rattle.channel.specs.Asking.{number as full-number};
+ghost use Rattle.channel.specs.Asking.{number as full_number};
 ghost use Rattle.channel.specs.Sending.{a_frame, a_mark};
 
 use framing::frame::Frame;
@@ -15,7 +15,7 @@ pub struct Full;
 impl Full {
     /// The number of the question that was answered no.
     pub fn number(self) -> u8
-        ensures { result ≡ full-number self }
+        ensures { result ≡ full_number self }
     {
         9
     }

@@ -1,5 +1,5 @@
 ghost use Rattle.std.specs.Prelude.{◌≡◌, ◌+◌, ◌-◌, ◌*◌, ◌/◌, ◌%◌, ◌<◌, min, [], ◌∷◌, ◌++◌, length, IfSome, MatchOption, OnOk};
-ghost use Rattle.framing.specs.declared.slot.Slot.TheVariants.{Frame as a-slot-with, Mark as a-mark-slot};
+ghost use Rattle.framing.specs.declared.slot.Slot.TheVariants.{Frame as a_slot_with, Mark as a_mark_slot};
 ghost use Rattle.channel.specs.Answers.{PutAnswer, TakeAnswer};
 ghost use Rattle.channel.specs.Sending.{a_frame, a_mark};
 ghost use Rattle.channel.specs.Outgoings.{as_put, as_slot};
@@ -155,14 +155,14 @@ impl Channel for Ring<'_> {
 
     fn put_frame(&mut self, frame: &Frame) -> Result<(), Full>
         ensures answers { PutAnswer kept room_in Unchanged (λ _. Unit {0}) (a_frame frame.now.bytes) result self.old self.new }
-        ensures exact { OnOk result (Pushed (a-slot-with frame.now) self.old self.new) }
+        ensures exact { OnOk result (Pushed (a_slot_with frame.now) self.old self.new) }
     {
         self.push(&Outgoing::Frame(*frame))
     }
 
     fn put_mark(&mut self) -> Result<(), Full>
         ensures answers { PutAnswer kept room_in Unchanged (λ _. Unit {0}) a_mark result self.old self.new }
-        ensures exact { OnOk result (Pushed a-mark-slot self.old self.new) }
+        ensures exact { OnOk result (Pushed a_mark_slot self.old self.new) }
     {
         self.push(&Outgoing::Mark)
     }

@@ -7,7 +7,7 @@ use native.Mathlib.Omega.{arith}
 use Rattle.checksum.specs.Stretch.{odd, ChangedInOneStretch}
 use Rattle.checksum.specs.Crc16.{unlike, step_by, feed_by}
 use Rattle.checksum.specs.Bits.{unlike_cancel_left}
-use Rattle.checksum.specs.Step.{step_lt as step_lt·, odd_step as odd-step·, low_before as low_before·, step_injective as step_injective·}
+use Rattle.checksum.specs.Step.{step_lt as step_lt·, odd_step as odd_step·, low_before as low_before·, step_injective as step_injective·}
 
 pub feed-++ : (top terms : ℕ) (a b : List Bool) (r : ℕ) → feed_by top terms r (a ++ b) ≡ feed_by top terms (feed_by top terms r a) b
 unfolding feed_by
@@ -19,7 +19,7 @@ module _ (top terms : ℕ) (terms-odd : odd terms ≡ true) (terms-fit : terms <
   step_lt = step_lt· top terms terms-odd terms-fit
 
   odd_step : (r : ℕ) (b : Bool) → odd (step_by top terms r b) ≡ unlike (odd (r / 2 ^ top)) b
-  odd_step = odd-step· top terms terms-odd terms-fit
+  odd_step = odd_step· top terms terms-odd terms-fit
 
   pub feed_lt : (w : List Bool) (r : ℕ) → r < 2 ^ (top + 1) → feed_by top terms r w < 2 ^ (top + 1)
   unfolding feed_by

@@ -7,7 +7,7 @@ use Rattle.channel.specs.Sending.{Went}
 use Rattle.receiver.specs.Answering.{Answer, answer_to}
 use Rattle.receiver.specs.Reading.{Outcome, new_reader, reading}
 use Rattle.receiver.specs.Readings.{buffer_question, said, said_length, packet_length, filled}
-use Rattle.receiver.specs.Readings.{refusal as reading-refusal}
+use Rattle.receiver.specs.Readings.{refusal as reading_refusal}
 use Rattle.receiver.specs.Views.{view}
 use Rattle.receiver.specs.declared.answer.Reading.{Reading}
 use Rattle.receiver.specs.declared.answer.BufferTooShort.{BufferTooShort}
@@ -120,7 +120,7 @@ pub record ReadingAnswer
     {C K S : Type 0} (slots : C → List Slot) (space : C → ℕ) (tied : C → Type 0)
     (width : ℕ) (value : List ℕ → List ℕ) (verdict : S → List ℕ → Option ℕ)
     (before after : List ℕ) (answer : Result Reading BufferTooShort) (old new : Flow C K S) : Type 0 where
-  pub asked : reading-refusal answer ≡ buffer_question (length before)
+  pub asked : reading_refusal answer ≡ buffer_question (length before)
   pub same : IfErr answer (λ _. (new ≡ old) × (after ≡ before))
   pub says : IfOk answer (λ a. said a after ≡ due slots width value verdict old)
   pub lengths : IfOk answer (λ a. said_length a ≡ packet_length (due slots width value verdict old))

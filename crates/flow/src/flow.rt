@@ -5,7 +5,7 @@ ghost use Rattle.flow.specs.Asking.{opening_questions, offer_questions, token_qu
 ghost use Rattle.flow.specs.Calls.{SetUp, OpeningAnswer, OfferAnswer, ClosingAnswer, ReadingAnswer, outcome};
 ghost use Rattle.flow.specs.Happening.{HistoryOf, Happened, opening_reply, offer_reply, closing_reply, reading_reply, if_accepted};
 ghost use Rattle.runlaw.specs.History.{History};
-ghost use Rattle.runlaw.specs.History.{opening as an-opening, offer as an-offer, closing as a-closing, reading as a-reading};
+ghost use Rattle.runlaw.specs.History.{opening as an_opening, offer as an_offer, closing as a_closing, reading as a_reading};
 ghost use Rattle.runlaw.specs.Law.{RunLaw};
 ghost use Rattle.flow.specs.Numbers.{open_number, offer_number, inside, refusal};
 ghost use Rattle.flow.specs.Writing.{state_of, opening, offering, closing};
@@ -166,7 +166,7 @@ impl<C: Channel, K: Checksum, S: Service> Flow<C, K, S> {
     /// Opens a superframe of `n` frames. What was carried over is cut first.
     pub fn opening(&mut self, n: usize) -> Result<SuperframeToken, OpenFault>
         ensures answer { OpeningAnswer slots space made tied n result self.old self.new }
-        ensures runs { (h : History) → HistoryOf slots space made tied width value verdict h self.old → Happened slots space made tied width reach value verdict (an-opening n) (opening_reply result) (if_accepted result (opening n (state_of self.old.writer)).puts) [] h self.old self.new }
+        ensures runs { (h : History) → HistoryOf slots space made tied width value verdict h self.old → Happened slots space made tied width reach value verdict (an_opening n) (opening_reply result) (if_accepted result (opening n (state_of self.old.writer)).puts) [] h self.old self.new }
     {
         self.start(n)
     }
@@ -179,7 +179,7 @@ impl<C: Channel, K: Checksum, S: Service> Flow<C, K, S> {
     ) -> (SuperframeToken, Result<(), OfferFault>)
         ensures token { result.0 ≡ token }
         ensures answer { OfferAnswer slots space made tied width value verdict token packet.now result.1 self.old self.new }
-        ensures runs { (h : History) → HistoryOf slots space made tied width value verdict h self.old → Happened slots space made tied width reach value verdict (an-offer packet.now) (offer_reply result.1) (if_accepted result.1 (offering (packet.now ++ value packet.now) (state_of self.old.writer)).puts) [] h self.old self.new }
+        ensures runs { (h : History) → HistoryOf slots space made tied width value verdict h self.old → Happened slots space made tied width reach value verdict (an_offer packet.now) (offer_reply result.1) (if_accepted result.1 (offering (packet.now ++ value packet.now) (state_of self.old.writer)).puts) [] h self.old self.new }
     {
         let answer = self.accept(&token, packet);
         (token, answer)
@@ -188,7 +188,7 @@ impl<C: Channel, K: Checksum, S: Service> Flow<C, K, S> {
     /// Closes the superframe of `token`: what is left of it is padding. A refused closing gives the token back.
     pub fn closing(&mut self, token: SuperframeToken) -> Result<(), CloseFault>
         ensures answer { ClosingAnswer slots space made tied token result self.old self.new }
-        ensures runs { (h : History) → HistoryOf slots space made tied width value verdict h self.old → Happened slots space made tied width reach value verdict a-closing (closing_reply result) (if_accepted result (closing (state_of self.old.writer)).puts) [] h self.old self.new }
+        ensures runs { (h : History) → HistoryOf slots space made tied width value verdict h self.old → Happened slots space made tied width reach value verdict a_closing (closing_reply result) (if_accepted result (closing (state_of self.old.writer)).puts) [] h self.old self.new }
     {
         self.end(token)
     }
@@ -196,7 +196,7 @@ impl<C: Channel, K: Checksum, S: Service> Flow<C, K, S> {
     /// Reads on until one answer is due. A packet that is handed out is put at the front of the buffer, without its checksum.
     pub fn reading(&mut self, buffer: &mut [u8]) -> Result<Reading, BufferTooShort>
         ensures answer { ReadingAnswer slots space tied width value verdict buffer.old buffer.new result self.old self.new }
-        ensures runs { (h : History) → HistoryOf slots space made tied width value verdict h self.old → Happened slots space made tied width reach value verdict a-reading (reading_reply result buffer.new) [] (if_accepted result (outcome slots width self.old).taken) h self.old self.new }
+        ensures runs { (h : History) → HistoryOf slots space made tied width value verdict h self.old → Happened slots space made tied width reach value verdict a_reading (reading_reply result buffer.new) [] (if_accepted result (outcome slots width self.old).taken) h self.old self.new }
     {
         self.read(buffer)
     }

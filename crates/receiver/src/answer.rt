@@ -1,5 +1,5 @@
 ghost use Rattle.std.specs.Prelude.{◌≡◌};
-ghost use Rattle.receiver.specs.Readings.{number as short-number};
+ghost use Rattle.receiver.specs.Readings.{number as short_number};
 
 use framing::fault::Torn;
 
@@ -47,7 +47,7 @@ pub struct BufferTooShort;
 impl BufferTooShort {
     /// The number of the question that was answered no.
     pub fn number(self) -> u8
-        ensures { result ≡ short-number self }
+        ensures { result ≡ short_number self }
     {
         8
     }
