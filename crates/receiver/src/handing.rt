@@ -17,10 +17,10 @@ pub(crate) fn hand_out<K: Checksum, S: Service>(
     service: &S,
     buffer: &mut [u8],
 ) -> Reading
-    requires { length received.now ≤ length buffer.old + width }
-    ensures answers { said result buffer.new ≡ answered width value (verdict service.now) received.now }
-    ensures lengths { said_length result ≡ packet_length (answered width value (verdict service.now) received.now) }
-    ensures fills { buffer.new ≡ filled (answered width value (verdict service.now) received.now) buffer.old }
+    requires { length received.now ≤ length buffer.old + K.width }
+    ensures answers { said result buffer.new ≡ answered K.width K.value (S.verdict service.now) received.now }
+    ensures lengths { said_length result ≡ packet_length (answered K.width K.value (S.verdict service.now) received.now) }
+    ensures fills { buffer.new ≡ filled (answered K.width K.value (S.verdict service.now) received.now) buffer.old }
 {
     let width = checksum.value_len();
     if received.len() <= width {

@@ -1,4 +1,5 @@
 //! The reading side: slots in, packets and what is missing out.
+#![tactic(auto)]
 pub mod answer;
 mod copying;
 mod handing;

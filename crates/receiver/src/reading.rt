@@ -24,10 +24,10 @@ impl Reader {
     ) -> Result<Reading, BufferTooShort>
         ensures asks { refusal result ≡ buffer_question (length buffer.old) }
         ensures same { OnErr result ((self.new ≡ self.old) × (channel.new ≡ channel.old) × (buffer.new ≡ buffer.old)) }
-        ensures reads { IfOk result (λ a. Reads fasb width value (verdict service.now) (side (view self.old) (slots channel.old) buffer.old) a (side (view self.new) (slots channel.new) buffer.new)) }
-        ensures frees { space channel.old ≤ space channel.new }
-        ensures keeps { tied channel.old → tied channel.new }
-        ensures untouched { (comes fasb width (side (view self.old) (slots channel.old) buffer.old)).taken ≡ [] → channel.new ≡ channel.old }
+        ensures reads { IfOk result (λ a. Reads fasb K.width K.value (S.verdict service.now) (side (view self.old) (C.slots channel.old) buffer.old) a (side (view self.new) (C.slots channel.new) buffer.new)) }
+        ensures frees { C.space channel.old ≤ C.space channel.new }
+        ensures keeps { C.tied channel.old → C.tied channel.new }
+        ensures untouched { (comes fasb K.width (side (view self.old) (C.slots channel.old) buffer.old)).taken ≡ [] → channel.new ≡ channel.old }
     {
         if buffer.len() < PACKET_MAX {
             return Err(BufferTooShort);
@@ -45,14 +45,14 @@ impl Reader {
         buffer: &mut [u8],
     ) -> Reading
         requires { 2044 ≤ length buffer.old }
-        ensures answers { said result buffer.new ≡ due fasb width value (verdict service.now) (side (view self.old) (slots channel.old) buffer.old) }
-        ensures lengths { said_length result ≡ packet_length (due fasb width value (verdict service.now) (side (view self.old) (slots channel.old) buffer.old)) }
-        ensures fills { buffer.new ≡ filled (due fasb width value (verdict service.now) (side (view self.old) (slots channel.old) buffer.old)) buffer.old }
-        ensures stands { view self.new ≡ (comes fasb width (side (view self.old) (slots channel.old) buffer.old)).reader }
-        ensures takes { slots channel.old ≡ (comes fasb width (side (view self.old) (slots channel.old) buffer.old)).taken ++ slots channel.new }
-        ensures frees { space channel.old ≤ space channel.new }
-        ensures keeps { tied channel.old → tied channel.new }
-        ensures untouched { (comes fasb width (side (view self.old) (slots channel.old) buffer.old)).taken ≡ [] → channel.new ≡ channel.old }
+        ensures answers { said result buffer.new ≡ due fasb K.width K.value (S.verdict service.now) (side (view self.old) (C.slots channel.old) buffer.old) }
+        ensures lengths { said_length result ≡ packet_length (due fasb K.width K.value (S.verdict service.now) (side (view self.old) (C.slots channel.old) buffer.old)) }
+        ensures fills { buffer.new ≡ filled (due fasb K.width K.value (S.verdict service.now) (side (view self.old) (C.slots channel.old) buffer.old)) buffer.old }
+        ensures stands { view self.new ≡ (comes fasb K.width (side (view self.old) (C.slots channel.old) buffer.old)).reader }
+        ensures takes { C.slots channel.old ≡ (comes fasb K.width (side (view self.old) (C.slots channel.old) buffer.old)).taken ++ C.slots channel.new }
+        ensures frees { C.space channel.old ≤ C.space channel.new }
+        ensures keeps { C.tied channel.old → C.tied channel.new }
+        ensures untouched { (comes fasb K.width (side (view self.old) (C.slots channel.old) buffer.old)).taken ≡ [] → channel.new ≡ channel.old }
     {
         let width = checksum.value_len() as u8;
         match self.next_told(channel, fasb, width) {

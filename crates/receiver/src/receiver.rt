@@ -43,11 +43,11 @@ impl<C: Channel, K: Checksum, S: Service> Receiver<C, K, S> {
     pub fn read(&mut self, buffer: &mut [u8]) -> Result<Reading, BufferTooShort>
         ensures asks { refusal result ≡ buffer_question (length buffer.old) }
         ensures same { OnErr result ((self.new ≡ self.old) × (buffer.new ≡ buffer.old)) }
-        ensures reads { IfOk result (λ a. Reads self.old.fasb width value (verdict self.old.service) (side (view self.old.reader) (slots self.old.channel) buffer.old) a (side (view self.new.reader) (slots self.new.channel) buffer.new)) }
+        ensures reads { IfOk result (λ a. Reads self.old.fasb K.width K.value (S.verdict self.old.service) (side (view self.old.reader) (C.slots self.old.channel) buffer.old) a (side (view self.new.reader) (C.slots self.new.channel) buffer.new)) }
         ensures stays { (self.new.checksum ≡ self.old.checksum) × (self.new.service ≡ self.old.service) × (self.new.fasb ≡ self.old.fasb) }
-        ensures frees { space self.old.channel ≤ space self.new.channel }
-        ensures keeps { tied self.old.channel → tied self.new.channel }
-        ensures untouched { (comes self.old.fasb width (side (view self.old.reader) (slots self.old.channel) buffer.old)).taken ≡ [] → self.new.channel ≡ self.old.channel }
+        ensures frees { C.space self.old.channel ≤ C.space self.new.channel }
+        ensures keeps { C.tied self.old.channel → C.tied self.new.channel }
+        ensures untouched { (comes self.old.fasb K.width (side (view self.old.reader) (C.slots self.old.channel) buffer.old)).taken ≡ [] → self.new.channel ≡ self.old.channel }
     {
         self.reader.read(
             &mut self.channel,
@@ -60,14 +60,14 @@ impl<C: Channel, K: Checksum, S: Service> Receiver<C, K, S> {
 
     /// The room of the channel.
     pub fn room(&self) -> usize
-        ensures { result ≡ space self.now.channel }
+        ensures { result ≡ C.space self.now.channel }
     {
         self.channel.room()
     }
 
     /// Whether a slot waits on the channel.
     pub fn waits(&self) -> bool
-        ensures { result ≡ waiting (slots self.now.channel) }
+        ensures { result ≡ waiting (C.slots self.now.channel) }
     {
         self.channel.waits()
     }

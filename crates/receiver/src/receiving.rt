@@ -145,11 +145,11 @@ impl Reader {
     /// Goes on, through the frame in hand and then slot by slot, until there is one thing to tell.
     pub(crate) fn next_told<C: Channel>(&mut self, channel: &mut C, fasb: bool, width: u8) -> Told
         requires { width ≤ 4 }
-        ensures ends { Ends (reading fasb width (view self.old) (slots channel.old)) (slots channel.old) (told_by result self.new.gathered) self.new (slots channel.new) }
+        ensures ends { Ends (reading fasb width (view self.old) (C.slots channel.old)) (C.slots channel.old) (told_by result self.new.gathered) self.new (C.slots channel.new) }
         ensures fits { Fitting width result self.new.gathered }
-        ensures frees { space channel.old ≤ space channel.new }
-        ensures keeps { tied channel.old → tied channel.new }
-        ensures untouched { (reading fasb width (view self.old) (slots channel.old)).taken ≡ [] → channel.new ≡ channel.old }
+        ensures frees { C.space channel.old ≤ C.space channel.new }
+        ensures keeps { C.tied channel.old → C.tied channel.new }
+        ensures untouched { (reading fasb width (view self.old) (C.slots channel.old)).taken ≡ [] → channel.new ≡ channel.old }
     {
         let mut at = self.hand_at();
         loop {

@@ -50,7 +50,7 @@ fn gather(
     requires { len + length body.now ≤ 2048 }
     ensures gathers { take (len + length body.now) gathered.new ≡ take len gathered.old ++ body.now }
     ensures counts { length (take (len + length body.now) gathered.new) ≡ len + length body.now }
-    ensures stands { result ≡ (if last then Aligned next, Some (len + length body.now) else (Gathering (len + length body.now), None)) }
+    ensures stands { result ≡ (if last then (Aligned next, Some (len + length body.now)) else (Gathering (len + length body.now), None)) }
 {
     let len = len as usize;
     let end = len + body.len();

@@ -7,8 +7,8 @@ loop-at-preserved c =
     let at : ℕ = c.loop-at.at in
     let inv = c.loop-at.invariant in (
       omega arith,
-      c.copy-part.ensures.len ∙ inv.1,
-      ap (take (at + 32)) c.copy-part.ensures.after
+      c.copy_part.ensures.len ∙ inv.1,
+      ap (take (at + 32)) c.copy_part.ensures.after
           ∙ further c.loop-at.to c.args.from.now at 32 (omega arith) inv.2,
     )
 
@@ -16,5 +16,5 @@ pub returns : goal.returns
 returns c =
     let from : List ℕ = c.args.from.now in
     let inv = c.loop-at.invariant in
-    c.copy-part-2.ensures.after
+    c.copy_part-2.ensures.after
     ∙ all_copied c.loop-at.to from c.loop-at.at (length from - 32) 32 inv.1 (omega arith) (omega arith) inv.2

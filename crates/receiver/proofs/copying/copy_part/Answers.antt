@@ -9,9 +9,9 @@ returns c =
     let to : List ℕ = c.args.to.now in
     let from : List ℕ = c.args.from.now in
     let wide : at + 32 - at ≡ 32 = omega arith in
-    let read : c.copy-from-slice.new.self ≡ take (at + 32 - at) (drop at from) = c.copy-from-slice.ensures.after in
-    let put : c.copy-from-slice-2.new.self ≡ c.copy-from-slice.new.self = c.copy-from-slice-2.ensures.after in
-    let all : put_mid at (at + 32 - at) to c.copy-from-slice-2.new.self ≡ take at to ++ (take 32 (drop at from) ++ drop (at + 32) to) =
+    let read : c.copy_from_slice.new.self ≡ take (at + 32 - at) (drop at from) = c.copy_from_slice.ensures.after in
+    let put : c.copy_from_slice-2.new.self ≡ c.copy_from_slice.new.self = c.copy_from_slice-2.ensures.after in
+    let all : put_mid at (at + 32 - at) to c.copy_from_slice-2.new.self ≡ take at to ++ (take 32 (drop at from) ++ drop (at + 32) to) =
     ap₂
     (λ (p b : List ℕ). take at to ++ (p ++ b))
     (put ∙ read ∙ ap (λ (n : ℕ). take n (drop at from)) wide)

@@ -36,8 +36,8 @@ returns-in-0 c =
       moves = (omega arith, omega arith);
     }
 
-pub returns-in-default : goal.returns-in-default
-returns-in-default c =
+pub returns-in_default : goal.returns-in_default
+returns-in_default c =
     let at : ℕ = c.args.at in
     let frame = c.args.frame.now.bytes in
     let whole : length frame ≡ 122 = omega arith in
@@ -52,6 +52,6 @@ returns-in-default c =
           ∙ ap (λ f. f ∷ unread_from frame end)
           (body_is (at + 1) (get_or frame at 0) (drop (at + 1) frame) (λ p. omega arith) (λ z. omega arith)
           ∙ ap (λ b. body (at + 1) b (last_of (get_or frame at 0))) (take_clipped (drop (at + 1) frame) n (end - (at + 1)) inside)
-          ∙ sym (ap (λ l. body (at + 1) (take (end - (at + 1)) (drop (at + 1) frame)) l) c.from-byte-header.ensures.1));
+          ∙ sym (ap (λ l. body (at + 1) (take (end - (at + 1)) (drop (at + 1) frame)) l) c.from_byte-header.ensures.1));
       moves = (omega arith, omega arith);
     }

@@ -20,19 +20,19 @@ counted n k old part new inside same =
 pub returns-then-last : goal.returns-then-last
 returns-then-last c =
     let inside : c.args.len ≤ length c.args.gathered.now = omega arith in
-    let same = c.copy-all.ensures in
+    let same = c.copy_all.ensures in
     record {
-      gathers = written c.args.len _ c.args.gathered.now c.copy-all.new.to c.args.body.now inside same;
-      counts = counted c.args.len _ c.args.gathered.now c.copy-all.new.to c.args.body.now inside same;
+      gathers = written c.args.len _ c.args.gathered.now c.copy_all.new.to c.args.body.now inside same;
+      counts = counted c.args.len _ c.args.gathered.now c.copy_all.new.to c.args.body.now inside same;
       stands = sym (cond-true c.args.last _ _ c.if-last.true);
     }
 
 pub returns-else-last : goal.returns-else-last
 returns-else-last c =
     let inside : c.args.len ≤ length c.args.gathered.now = omega arith in
-    let same = c.copy-all.ensures in
+    let same = c.copy_all.ensures in
     record {
-      gathers = written c.args.len _ c.args.gathered.now c.copy-all.new.to c.args.body.now inside same;
-      counts = counted c.args.len _ c.args.gathered.now c.copy-all.new.to c.args.body.now inside same;
+      gathers = written c.args.len _ c.args.gathered.now c.copy_all.new.to c.args.body.now inside same;
+      counts = counted c.args.len _ c.args.gathered.now c.copy_all.new.to c.args.body.now inside same;
       stands = sym (cond-false c.args.last _ _ c.if-last.false);
     }

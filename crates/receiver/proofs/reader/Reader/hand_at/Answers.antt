@@ -10,7 +10,7 @@ read_out (Aligned n) frame short other = absurd (other n refl)
 read_out (Gathering n) frame short other = (tt, nothing_past frame 122 short)
 read_out Seeking frame short other = (tt, nothing_past frame 122 short)
 
-pub returns-in-default : goal.returns-in-default
-returns-in-default c =
-    let both = read_out c.args.self.now.state c.args.self.now.frame.bytes (omega arith) c.in-default.not-Aligned in
+pub returns-in_default : goal.returns-in_default
+returns-in_default c =
+    let both = read_out c.args.self.now.state c.args.self.now.frame.bytes (omega arith) c.in_default.not-Aligned in
     record { rests = both.0; unread = both.1 }

@@ -8,7 +8,7 @@ use Rattle.receiver.proofs.reader.Reader.next_told.Goals as goal
 
 pub loop-len-init : goal.loop-len-init
 loop-len-init g c = (
-  begins c.args.fasb c.args.width c.args.self.now c.hand-at-at.result (g.C.Channel.slots c.args.channel.now) c.hand-at-at.ensures.rests c.hand-at-at.ensures.unread,
+  begins c.args.fasb c.args.width c.args.self.now c.hand_at-at.result (g.C.Channel.slots c.args.channel.now) c.hand_at-at.ensures.rests c.hand_at-at.ensures.unread,
   omega arith,
   λ t. t,
   λ none. refl,
@@ -32,11 +32,11 @@ returns-in-Some g c =
       untouched = c.loop-len.invariant.3;
     }
 
-pub returns-in-default-take : goal.returns-in-default-take
-returns-in-default-take g c =
+pub returns-in_default-take : goal.returns-in_default-take
+returns-in_default-take g c =
     let under = c.loop-len.invariant.0 in
-    let got = c.in-default.ensures in
-    let none = c.in-default-take.ensures in
+    let got = c.in_default.ensures in
+    let none = c.in_default-take.ensures in
     record {
       ends = with_nothing c.args.fasb c.args.width _ _ c.loop-len.self c.advance.new.self c.loop-len.at _ _ under got.finds got.same.1 none.first.0 (ap g.C.Channel.slots none.first.1);
       fits = tt;
@@ -47,13 +47,13 @@ returns-in-default-take g c =
 
 pub receive-requires : goal.receive-requires
 receive-requires g c =
-    let got = c.in-default.ensures in
+    let got = c.in_default.ensures in
     hand_out c.loop-len.self c.advance.new.self c.loop-len.at got.finds
 
 pub returns-in-Some-receive : goal.returns-in-Some-receive
 returns-in-Some-receive g c =
     let under = c.loop-len.invariant.0 in
-    let got = c.in-default.ensures in
+    let got = c.in_default.ensures in
     let took = c.in-Some-take.ensures in
     let told = c.in-Some-receive.ensures in
     let ends = with_told c.args.fasb c.args.width _ _ c.loop-len.self c.advance.new.self c.receive.new.self c.loop-len.at _ _ c.in-Some-take.slot c.in-Some-receive.told under got.finds got.same.1 took.first told in
@@ -68,11 +68,11 @@ returns-in-Some-receive g c =
 pub loop-len-preserved : goal.loop-len-preserved
 loop-len-preserved g c =
     let under = c.loop-len.invariant.0 in
-    let got = c.in-default.ensures in
+    let got = c.in_default.ensures in
     let took = c.in-Some-take.ensures in
     let more = c.loop-len.invariant.1 in
     let freed = took.frees in
-    let on = goes_on_with c.args.fasb c.args.width _ _ c.loop-len.self c.advance.new.self c.receive.new.self c.loop-len.at _ _ c.in-Some-take.slot under got.finds got.same.1 took.first c.in-default-receive.ensures in (
+    let on = goes_on_with c.args.fasb c.args.width _ _ c.loop-len.self c.advance.new.self c.receive.new.self c.loop-len.at _ _ c.in-Some-take.slot under got.finds got.same.1 took.first c.in_default-receive.ensures in (
       on,
       omega arith,
       λ t. took.keeps (c.loop-len.invariant.2 t),

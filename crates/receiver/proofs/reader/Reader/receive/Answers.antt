@@ -16,7 +16,7 @@ returns-in-Ok c =
     let held = c.hold.ensures.holds.0 in
     let whole : length bytes ≡ 122 = sym (ap (λ f. length f.bytes) held) ∙ c.hold.new.self.whole in
     let judged : lawful ≡ verdict_on c.args.width r bytes =
-    c.in-Ok.ensures ∙ ap (λ o. (judgment c.args.width o bytes).verdict) c.open-len.ensures in
+    c.in-Ok.ensures ∙ ap (λ o. (judgment c.args.width o bytes).verdict) c.open_len.ensures in
     let fit : Within (2044 + c.args.width) r (fragments bytes) = lawful_within c.args.width r bytes whole (sym (ap is_lawful judged)) in
     let held_so : Holds c.args.fasb c.args.width c.args.self.now c.args.slot c.hold.new.self =
     record {
