@@ -1,11 +1,11 @@
 -- Patterns, and lists that come through a fade.
-use Rattle.std.proofs.Common.{◌≡◌, ℕ, zero, suc, ◌+◌, ◌-◌, ◌*◌, ◌/◌, ◌%◌, ◌^◌, ◌<◌, ◌≤◌, Bool, true, false, cond, ◌&&◌, leb, List, [], ◌∷◌, ◌++◌, length, get_or, take, Some, None, Option, sym, refl, ap, ◌∙◌, subst, ap₂, mod-lt, arith}
+use Rattle.std.proofs.Common.{◌≡◌, ℕ, ◌+◌, ◌*◌, ◌/◌, ◌%◌, ◌<◌, ◌≤◌, Bool, true, false, cond, leb, List, length, get_or, take, Some, None, sym, refl, ap, ◌∙◌, mod-lt, arith}
 use native.Mathlib.Nat.{mod-add-mod, mod-mod}
 use Rattle.std.proofs.lemmas.List.{length-take, get_or-take}
 use Rattle.std.proofs.lemmas.Bool.{le-leb, and_from}
 use Rattle.framing.specs.declared.slot.Slot.{Slot}
 use Rattle.framing.specs.declared.slot.Slot.TheVariants.{Frame, Gap, Mark}
-use Rattle.channel.specs.Patterns.{length_question, is_set, passes, through, number_after, faded}
+use Rattle.channel.specs.Patterns.{length_question, is_set, passes, through, number_after}
 
 -- a length of 1 to 64 is not refused
 pub length_right : (n : ℕ) → 1 ≤ n → n ≤ 64 → length_question n ≡ None

@@ -1,5 +1,5 @@
 -- A fade over a channel meets the interface.
-use Rattle.std.proofs.Common.{◌≡◌, ℕ, ◌+◌, ◌*◌, ◌%◌, ◌≤◌, Bool, true, false, cond, ◌⊎◌, List, [], ◌∷◌, ◌++◌, map, length, Some, None, Ok, Err, Option, Result, sym, refl, ap, ◌∙◌, subst, ap₂, inl, inr}
+use Rattle.std.proofs.Common.{◌≡◌, ℕ, ◌+◌, ◌*◌, ◌%◌, ◌≤◌, Bool, true, false, cond, List, [], ◌∷◌, ◌++◌, map, length, Some, Ok, Err, Result, sym, refl, ap, ◌∙◌, subst, ap₂, inl, inr}
 use native.Mathlib.Nat.{mod-add-mod}
 use Rattle.framing.specs.declared.slot.Slot.{Slot}
 use Rattle.framing.specs.declared.slot.Slot.TheVariants.{Frame, Gap, Mark}
@@ -9,7 +9,7 @@ use Rattle.channel.specs.declared.fade.Fade.{Fade}
 use Rattle.channel.specs.Answers.{PutAnswer, TakeAnswer}
 use Rattle.channel.specs.Sending.{Arrives, Put, Sent, sent_frame, sent_mark, what, became, AllMade, Went}
 use Rattle.channel.specs.Patterns.{shown, passes, through, number_after, faded}
-use Rattle.channel.specs.Fading.{fade_slots, fade_space, Fades, FadeTied, SameBit, PutBelow, TakeBelow}
+use Rattle.channel.specs.Fading.{fade_slots, fade_space, Fades, FadeTied, SameBit, TakeBelow}
 use Rattle.channel.proofs.Fades.{passes_round}
 
 -- numbers with one bit are as good as each other

@@ -1,8 +1,8 @@
 -- Judging header by header.
-use Rattle.std.proofs.Common.{◌≡◌, ℕ, ◌+◌, ◌-◌, ◌<◌, ◌≤◌, List, [], ◌∷◌, length, get_or, take, drop, Some, None, Option, sym, refl, ap, ◌∙◌, subst, arith}
+use Rattle.std.proofs.Common.{◌≡◌, ℕ, ◌+◌, ◌-◌, ◌<◌, ◌≤◌, List, length, get_or, take, drop, Option, sym, ap, ◌∙◌, arith}
 use Rattle.std.proofs.lemmas.List.{take_rest, drop_all}
 use Rattle.framing.specs.Header.{count_of, Header, headers_from}
-use Rattle.framing.specs.Judging.{first_no, questions, judgment_of, after_first, Verdict, lawful, torn}
+use Rattle.framing.specs.Judging.{first_no, questions, judgment_of, after_first, lawful}
 use Rattle.framing.proofs.Walks.{next_header}
 
 -- the header at an index, as the code reads it

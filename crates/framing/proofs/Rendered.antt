@@ -1,14 +1,14 @@
 -- The fragments of a lawful frame, rendered again, are the frame.
-use Rattle.std.proofs.Common.{◌≡◌, ℕ, zero, suc, ◌+◌, ◌-◌, ◌/◌, ◌%◌, ◌<◌, ◌≤◌, min, Bool, true, false, cond, not, ◌&&◌, ◌||◌, eqb, ltb, leb, ◌⊎◌, List, [], ◌∷◌, ◌++◌, map, length, get_or, take, replicate, IfOk, Some, None, Ok, Err, Option, Result, sym, refl, ap, ◌∙◌, ap₂, inl, inr, arith}
+use Rattle.std.proofs.Common.{◌≡◌, ℕ, zero, suc, ◌+◌, ◌-◌, ◌/◌, ◌<◌, ◌≤◌, Bool, true, false, cond, ◌||◌, eqb, leb, ◌⊎◌, List, [], ◌∷◌, ◌++◌, map, length, take, replicate, IfOk, Some, None, Ok, Err, Option, Result, sym, refl, ap, ◌∙◌, ap₂, inl, inr, arith}
 use Rattle.std.specs.List.{flat_map}
-use Rattle.std.proofs.lemmas.List.{append-nil, append_cancel_left, take_all, length-take-le, nil_from_length}
-use Rattle.std.proofs.lemmas.Bool.{cases_eq, cases_Bool, cond-true, cond-false, eq-eqb, ne_eqb, eqb-true, eqb-false, leb-true, ltb-true, and_parts, not-true, both_ways}
+use Rattle.std.proofs.lemmas.List.{append-nil, append_cancel_left, take_all, length-take-le}
+use Rattle.std.proofs.lemmas.Bool.{cases_eq, cond-true, cond-false, eq-eqb, ne_eqb, eqb-true, eqb-false, leb-true, ltb-true, and_parts, not-true, both_ways}
 use Rattle.framing.specs.Header.{count_of, last_of, byte_of, Header, headers_from}
-use Rattle.framing.specs.Giving.{Asked, gives, refuses, of_verdict, asked, answer}
+use Rattle.framing.specs.Giving.{gives, refuses, of_verdict, asked, answer}
 use Rattle.framing.specs.declared.fragments.Fragments.{Fragments}
 use Rattle.framing.specs.declared.fragments.FragmentsFault.{FragmentsFault}
 use Rattle.framing.specs.Judging.{Verdict, lawful, torn, judgment, Question, ask, first_no, all_zero, questions, padding_questions, notional_questions, body_questions, judgment_of, after_first, Judgment, is_lawful}
-use Rattle.framing.specs.Fragments.{Fragment, body, notional, padding, fragment_of, fragments, rendered, Bytes}
+use Rattle.framing.specs.Fragments.{fragment_of, fragments, rendered, Bytes}
 use Rattle.framing.proofs.Coming.{padding_is, notional_is, body_is}
 
 -- 1. A lawful judgment, header by header.

@@ -1,6 +1,5 @@
 -- The fragments of a frame, and the bytes of a fragment.
-use Rattle.std.specs.Prelude.{◌≡◌, ℕ, ◌-◌, ◌<◌, Bool, cond, List, [], ◌∷◌, ◌++◌, map, length, take, replicate, ◌==◌, slice_index}
-use Rattle.std.specs.List.{flat_map}
+use Rattle.std.specs.Prelude.{ℕ, ◌-◌, ◌<◌, Bool, cond, List, [], ◌∷◌, map, length, take, replicate, ◌==◌, slice_index}
 use Rattle.framing.specs.Header.{count_of, last_of, byte_of, Header, headers}
 
 -- A fragment, with its header's place: a body, of which the bytes are known and the last mark, a notional packet, or

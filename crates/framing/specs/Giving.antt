@@ -1,5 +1,5 @@
 -- Giving the fragments of a frame one at a time.
-use Rattle.std.specs.Prelude.{◌≡◌, ℕ, ◌+◌, Bool, cond, List, [], ◌∷◌, ◌++◌, map, length, drop, Some, None, Ok, Err, Option, Result, ◌==◌}
+use Rattle.std.specs.Prelude.{◌≡◌, ℕ, ◌+◌, cond, List, [], ◌∷◌, map, length, drop, Some, None, Ok, Err, Option, Result, ◌==◌}
 use Rattle.framing.specs.Header.{headers_from}
 use Rattle.framing.specs.Judging.{judgment, Verdict, lawful, torn, fault_number}
 use Rattle.framing.specs.Fragments as rules

@@ -1,4 +1,4 @@
-use Rattle.std.proofs.Common.{◌≡◌, ◌+◌, ◌≤◌, length, get_or, drop, Some, None, sym, ap, ◌∙◌, arith}
+use Rattle.std.proofs.Common.{◌≡◌, ◌+◌, ◌≤◌, length, drop, Some, None, sym, ap, ◌∙◌, arith}
 use Rattle.framing.specs.Header.{headers_from}
 use Rattle.framing.specs.Judging.{fault_number, judgment_of}
 use Rattle.framing.proofs.Judged.{judged_at, judged_all}

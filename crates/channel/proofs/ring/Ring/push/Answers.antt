@@ -2,7 +2,7 @@ use borrow.Rule.Slice.Mut.{set_vals}
 use Rattle.std.proofs.Common.{◌+◌, ◌<◌, refl, arith}
 use Rattle.channel.specs.declared.ring.Ring.{Ring}
 use Rattle.channel.specs.Outgoings.{as_slot}
-use Rattle.channel.specs.Rings.{capacity, room_in, Pushed}
+use Rattle.channel.specs.Rings.{room_in, Pushed}
 use Rattle.channel.proofs.Rounds.{has_place, pushed, push_answer}
 use Rattle.channel.proofs.ring.Ring.push.Goals as goal
 
