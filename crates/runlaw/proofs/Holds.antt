@@ -1,6 +1,6 @@
 -- From what a reader tells of all that was sent to the law of a history.
 use Rattle.std.proofs.Common.{◌≡◌, ℕ, ◌+◌, Bool, List, [], ◌∷◌, ◌++◌, map, length, None, Option, sym, refl, ap, ◌∙◌, subst, arith}
-use Rattle.std.specs.List.{flat_map, AllByRecursion as All}
+use Rattle.std.specs.List.{flat_map, AllByRecursion}
 use Rattle.std.proofs.lemmas.List.{length-append}
 use Rattle.std.proofs.lemmas.Bool.{cond_both}
 use Rattle.channel.specs.Sending.{became}
@@ -37,7 +37,7 @@ none_in_turn : {A B : Type 0} (R : A → B → Type 0) (zs : List B) → InTurn 
 none_in_turn R [] t = refl
 none_in_turn R (z ∷ zs) t = absurd t
 
-all_front : {A : Type 0} (P : A → Type 0) (xs ys : List A) → All P (xs ++ ys) → All P xs
+all_front : {A : Type 0} (P : A → Type 0) (xs ys : List A) → AllByRecursion P (xs ++ ys) → AllByRecursion P xs
 all_front P [] ys h = tt
 all_front P (x ∷ xs) ys h = (h.0, all_front P xs ys h.1)
 
@@ -47,7 +47,7 @@ module _ (value : List ℕ → List ℕ) (refusal : List ℕ → Option ℕ) whe
   abbrev Carried : List Piece → Type 0
   Carried g = (p : List ℕ) × (as_cut g ≡ p ++ value p) × Admitted refusal p
 
-  all_carried : (ps : List (List ℕ)) (gs : List (List Piece)) (waiting : List (List ℕ)) → map (λ p. p ++ value p) ps ≡ map as_cut gs ++ waiting → All (Admitted refusal) ps → All Carried gs
+  all_carried : (ps : List (List ℕ)) (gs : List (List Piece)) (waiting : List (List ℕ)) → map (λ p. p ++ value p) ps ≡ map as_cut gs ++ waiting → AllByRecursion (Admitted refusal) ps → AllByRecursion Carried gs
   all_carried ps [] waiting e h = tt
   all_carried [] (g ∷ gs) waiting e h = let z : ◌≡◌ {A = ℕ} 0 1 = cc in absurd (omega arith)
   all_carried (p ∷ ps) (g ∷ gs) waiting e h =
@@ -55,10 +55,10 @@ module _ (value : List ℕ → List ℕ) (refusal : List ℕ → Option ℕ) whe
       let more : map (λ p. p ++ value p) ps ≡ map as_cut gs ++ waiting = cc in
       ((p, first, h.0), all_carried ps gs waiting more h.1)
 
-  all_good : (gs : List (List Piece)) → All Carried gs → All (All Own) gs → All (Good value refusal) (clear_only gs)
+  all_good : (gs : List (List Piece)) → AllByRecursion Carried gs → AllByRecursion (AllByRecursion Own) gs → AllByRecursion (Good value refusal) (clear_only gs)
   all_good [] h k = tt
   all_good (g ∷ gs) h k =
-      cond_both (is_clear g) (g ∷ clear_only gs) (clear_only gs) (All (Good value refusal))
+      cond_both (is_clear g) (g ∷ clear_only gs) (clear_only gs) (AllByRecursion (Good value refusal))
       (λ e. (record { offered = h.0.0; cut_so = h.0.1; admitted = h.0.2; length_kept = clear_length g k.0 e }, all_good gs h.1 k.1))
       (λ e. all_good gs h.1 k.1)
 
@@ -74,7 +74,7 @@ module _ (width reach : ℕ) (value : List ℕ → List ℕ) (refusal : List ℕ
   pub record Answers (told : List Told) (gs : List (List Piece)) : Type 0 where
     pub turns : InTurn Rightly (out_of told) gs
     pub losses : flat_map lost_by (answered width value refusal told) ≡ flat_map loss_in told
-    pub faultless : All NoFault (answered width value refusal told)
+    pub faultless : AllByRecursion NoFault (answered width value refusal told)
 
   one_out : (b : List ℕ) (g : List Piece) (told : List Told) (gs : List (List Piece)) → b ≡ as_received g → Good value refusal g → Answers told gs → Answers (packet b ∷ told) (g ∷ gs)
   one_out b g told gs e good more =
@@ -83,10 +83,10 @@ module _ (width reach : ℕ) (value : List ℕ → List ℕ) (refusal : List ℕ
       record {
         turns = subst (λ a. InTurn Rightly (out_by a ++ out_of told) (g ∷ gs)) is (out.rightly, more.turns);
         losses = subst (λ a. lost_by a ++ flat_map lost_by (answered width value refusal told) ≡ flat_map loss_in told) is more.losses;
-        faultless = subst (λ a. NoFault a × All NoFault (answered width value refusal told)) is (tt, more.faultless);
+        faultless = subst (λ a. NoFault a × AllByRecursion NoFault (answered width value refusal told)) is (tt, more.faultless);
       }
 
-  all_answered : (told : List Told) (gs : List (List Piece)) → flat_map packet_in told ≡ map as_received gs → flat_map torn_in told ≡ [] → All (Good value refusal) gs → Answers told gs
+  all_answered : (told : List Told) (gs : List (List Piece)) → flat_map packet_in told ≡ map as_received gs → flat_map torn_in told ≡ [] → AllByRecursion (Good value refusal) gs → Answers told gs
   all_answered [] [] e none h = record { turns = tt; losses = refl; faultless = tt }
   all_answered [] (g ∷ gs) e none h = let z : ◌≡◌ {A = ℕ} 0 1 = cc in absurd (omega arith)
   all_answered (packet b ∷ told) [] e none h = let z : ◌≡◌ {A = ℕ} 0 1 = cc in absurd (omega arith)
@@ -114,7 +114,7 @@ module _ (fasb : Bool) (width reach : ℕ) (value : List ℕ → List ℕ) (refu
       let s = all_sent h in
       let told = told_of fasb width aligned 0 (map became s) in
       let reads : Tells told (map as_received (clear fasb [] s)) (gaps (map became s)) = reads_the_clear fasb width 0 [] s shown.written fair in
-      let good : All (Good value refusal) (clear fasb [] s) =
+      let good : AllByRecursion (Good value refusal) (clear fasb [] s) =
       all_good value refusal (groups fasb [] s)
       (all_carried value refusal (packets_accepted h) (groups fasb [] s) shown.carries.waiting shown.carries.carried shown.admitted)
       (groups_own [] (pieces fasb [] s) tt (pieces_own fasb width s None [] shown.written fair)) in
@@ -140,7 +140,7 @@ module _ (fasb : Bool) (width reach : ℕ) (value : List ℕ → List ℕ) (refu
               omega arith,
             );
         no_false_loss = omega arith;
-        no_fault = all_front NoFault so_far to_come (subst (All NoFault) (sym shown.told) all.faultless);
+        no_fault = all_front NoFault so_far to_come (subst (AllByRecursion NoFault) (sym shown.told) all.faultless);
       }
 
 pub run_law_holds : RunLawHolds

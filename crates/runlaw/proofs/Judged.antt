@@ -1,6 +1,6 @@
 -- One clear packet of a fair run: it comes at its own length, is handed out so, and is judged rightly.
 use Rattle.std.proofs.Common.{◌≡◌, ℕ, ◌+◌, ◌-◌, ◌≤◌, Bool, true, false, cond, ◌&&◌, eqb, leb, List, [], ◌∷◌, ◌++◌, length, take, drop, Some, None, Option, sym, refl, ap, ◌∙◌, ap₂, subst₂, arith}
-use Rattle.std.specs.List.{flat_map, AllByRecursion as All}
+use Rattle.std.specs.List.{flat_map, AllByRecursion}
 use Rattle.std.proofs.ByRecursion.{All-append}
 use Rattle.std.proofs.lemmas.List.{length-append, length-take, take_at, drop_at, take-append-drop}
 use Rattle.std.proofs.lemmas.Bool.{and_parts, cond-false, lt-leb, eq-eqb, eqb-true, both_ways}
@@ -30,25 +30,25 @@ OwnLength (Some g) c = length g ≡ length c
 abbrev pub Own : Piece → Type 0
 Own q = OwnLength q.came q.cut
 
-rest_own : (known : Bool) (g : Frame) → length g.bytes ≡ 122 → (fs : List Fragment) (at : Option ℕ) → Rest at fs → All Own (flat_map (piece_of known (slot.Frame g)) fs)
+rest_own : (known : Bool) (g : Frame) → length g.bytes ≡ 122 → (fs : List Fragment) (at : Option ℕ) → Rest at fs → AllByRecursion Own (flat_map (piece_of known (slot.Frame g)) fs)
 rest_own known g whole [] at ok = tt
 rest_own known g whole (body p c l ∷ fs) at ok = (own_length g.bytes p c whole ok.1, rest_own known g whole fs (stands_after_one at (body p c l)) ok.2)
 rest_own known g whole (notional p ∷ fs) at ok = rest_own known g whole fs at ok
 rest_own known g whole (padding p ∷ fs) at ok = rest_own known g whole fs at ok.1
 
-frame_own : (known : Bool) (g : Frame) → length g.bytes ≡ 122 → (fs : List Fragment) (at : Option ℕ) → Row at fs → All Own (flat_map (piece_of known (slot.Frame g)) fs)
+frame_own : (known : Bool) (g : Frame) → length g.bytes ≡ 122 → (fs : List Fragment) (at : Option ℕ) → Row at fs → AllByRecursion Own (flat_map (piece_of known (slot.Frame g)) fs)
 frame_own known g whole [] at ok = tt
 frame_own known g whole (body p c l ∷ fs) at ok = (own_length g.bytes p c whole ok.1, rest_own known g whole fs (stands_after_one at (body p c l)) ok.2)
 frame_own known g whole (notional p ∷ fs) at ok = absurd ok
 frame_own known g whole (padding p ∷ fs) at ok = rest_own known g whole fs at ok.1
 
-lost_own : (known : Bool) (fs : List Fragment) → All Own (flat_map (piece_of known slot.Gap) fs)
+lost_own : (known : Bool) (fs : List Fragment) → AllByRecursion Own (flat_map (piece_of known slot.Gap) fs)
 lost_own known [] = tt
 lost_own known (body p c l ∷ fs) = (tt, lost_own known fs)
 lost_own known (notional p ∷ fs) = lost_own known fs
 lost_own known (padding p ∷ fs) = lost_own known fs
 
-pub pieces_own : (fasb : Bool) (width : ℕ) (s : List Sent) (at : Option ℕ) (before : List Slot) → Written fasb width at s → Fair s → All Own (pieces fasb before s)
+pub pieces_own : (fasb : Bool) (width : ℕ) (s : List Sent) (at : Option ℕ) (before : List Slot) → Written fasb width at s → Fair s → AllByRecursion Own (pieces fasb before s)
 pieces_own fasb width [] at before w fair = tt
 pieces_own fasb width (sent_mark ∷ s) at before w fair = pieces_own fasb width s at (slot.Mark ∷ before) w.1 fair
 pieces_own fasb width (sent_frame f slot.Gap ∷ s) at before w fair =
@@ -59,12 +59,12 @@ pieces_own fasb width (sent_frame f (slot.Frame g) ∷ s) at before w fair =
     (pieces_own fasb width s (stands_after_all at (fragments f)) (slot.Frame g ∷ before) w.2 fair.1)
 pieces_own fasb width (sent_frame f slot.Mark ∷ s) at before w fair = absurd fair
 
-pub groups_own : (b xs : List Piece) → All Own b → All Own xs → All (All Own) (grouped b xs)
+pub groups_own : (b xs : List Piece) → AllByRecursion Own b → AllByRecursion Own xs → AllByRecursion (AllByRecursion Own) (grouped b xs)
 groups_own b [] h k = tt
 groups_own b (q ∷ xs) h k =
     let w = b ++ (q ∷ []) in
-    let own : All Own w = All-append Own b (q ∷ []) h (k.0, tt) in
-    elim q.ends as (λ e. All (All Own) (cond e (w ∷ grouped [] xs) (grouped w xs))) [
+    let own : AllByRecursion Own w = All-append Own b (q ∷ []) h (k.0, tt) in
+    elim q.ends as (λ e. AllByRecursion (AllByRecursion Own) (cond e (w ∷ grouped [] xs) (grouped w xs))) [
       | true ↦ (own, groups_own [] xs tt k.1)
       | false ↦ groups_own w xs own k.1
     ]
@@ -76,13 +76,13 @@ came_length (Some g) c h e = h
 sums : (a b c d : List ℕ) → length a ≡ length c → length b ≡ length d → length (a ++ b) ≡ length (c ++ d)
 sums a b c d x y = simp length-append (omega arith)
 
-group_length : (g : List Piece) → All Own g → all_came g ≡ true → length (as_received g) ≡ length (as_cut g)
+group_length : (g : List Piece) → AllByRecursion Own g → all_came g ≡ true → length (as_received g) ≡ length (as_cut g)
 group_length [] h e = refl
 group_length (q ∷ g) h e =
     let both = and_parts (is_here q.came) (all_came g) e in
     sums (or_none q.came) (as_received g) q.cut (as_cut g) (came_length q.came q.cut h.0 both.0) (group_length g h.1 both.1)
 
-pub clear_length : (g : List Piece) → All Own g → is_clear g ≡ true → length (as_received g) ≡ length (as_cut g)
+pub clear_length : (g : List Piece) → AllByRecursion Own g → is_clear g ≡ true → length (as_received g) ≡ length (as_cut g)
 clear_length g h e = group_length g h (and_parts (all_came g) (start_known g) e).0
 
 -- 2. Quality.

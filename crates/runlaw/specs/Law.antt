@@ -1,6 +1,6 @@
 -- The run law: a statement about histories.
 use Rattle.std.specs.Prelude.{◌≡◌, ℕ, ◌+◌, ◌-◌, ◌≤◌, Bool, cond, ◌≢◌, List, [], ◌∷◌, ◌++◌, map, length, take}
-use Rattle.std.specs.List.{AllByRecursion as All}
+use Rattle.std.specs.List.{AllByRecursion}
 use Rattle.channel.specs.Sending.{became}
 use Rattle.checksum.specs.Stretch.{bits, ChangedInOneStretch}
 use Rattle.receiver.specs.Answering.{sound, Answer, handed_out, short, lost, torn, mark, nothing}
@@ -71,7 +71,7 @@ pub record HandsOutClearPackets (fasb : Bool) (width reach : ℕ) (h : History) 
   pub each : InTurn (HandedOutRightly width reach) (packets_handed_out h) given
   pub complete : EndsWith reading (answers nothing) h → (held_back ≡ []) × (lost_answers h ≡ gaps (map became (all_sent h)))
   pub no_false_loss : lost_answers h ≤ gaps (map became (all_sent h))
-  pub no_fault : All NoFault (answers_given h)
+  pub no_fault : AllByRecursion NoFault (answers_given h)
 
 -- 3. The law. (Nothing stands before the beginning: hence `[]` above.)
 

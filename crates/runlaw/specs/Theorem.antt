@@ -1,6 +1,6 @@
 -- The theorems below the law: what a reader makes of what a writer put.
 use Rattle.std.specs.Prelude.{◌≡◌, ℕ, ◌≤◌, Bool, cond, List, [], ◌∷◌, ◌++◌, map, length, Some, None, Option}
-use Rattle.std.specs.List.{flat_map, AllByRecursion as All}
+use Rattle.std.specs.List.{flat_map, AllByRecursion}
 use Rattle.framing.specs.declared.slot.Slot.{Slot}
 use Rattle.channel.specs.Sending.{Sent, became}
 use Rattle.checksum.specs.Detection.{Detects}
@@ -66,7 +66,7 @@ pub record Shown (fasb : Bool) (width reach : ℕ) (value : List ℕ → List �
   pub detects : Detects reach value
   pub written : Written fasb width None (all_sent h)
   pub carries : CarriesPackets fasb value h
-  pub admitted : All (Admitted refusal) (packets_accepted h)
+  pub admitted : AllByRecursion (Admitted refusal) (packets_accepted h)
   pub untold : List Told
   pub told : answers_given h ++ answered width value refusal untold ≡ answered width value refusal (told_of fasb width aligned 0 (map became (all_sent h)))
   pub read_out : EndsWith reading (answers nothing) h → untold ≡ []
