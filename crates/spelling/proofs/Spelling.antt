@@ -1,7 +1,7 @@
 -- Numbers and bytes as they are spelt.
-use Rattle.std.proofs.Common.{◌≡◌, ℕ, ◌+◌, ◌-◌, ◌*◌, ◌/◌, ◌^◌, ◌<◌, ◌≤◌, min, Bool, true, false, cond, T, eqb, List, [], ◌∷◌, ◌++◌, length, get_or, take, drop, Some, None, Option, sym, refl, ap, ◌∙◌, subst, arith, eq-eqb}
+use Rattle.std.proofs.Common.{◌≡◌, ℕ, ◌+◌, ◌-◌, ◌*◌, ◌/◌, ◌^◌, ◌<◌, ◌≤◌, min, false, T, eqb, List, [], ◌∷◌, ◌++◌, length, get_or, take, drop, Some, None, Option, sym, refl, ap, ◌∙◌, subst, arith, eq-eqb}
 use Rattle.std.proofs.lemmas.List.{drop_more, take_more, take_all}
-use Rattle.spelling.specs.Decimal.{capped, decimal, count_of_digits, spell_on, with_digit}
+use Rattle.spelling.specs.Decimal.{capped, count_of_digits, spell_on, with_digit}
 use Rattle.spelling.specs.Hex.{behind, byte_of, digit_of, value_of_digit, hex_pair, hexed, in_front, in_word, unhexed}
 
 -- two numbers that the machine holds alike lead to the same

@@ -1,4 +1,6 @@
 //! Scripts as text: their lines and words, and the bytes and numbers that words spell.
+#![tactic(auto)]
+
 pub mod decimal;
 pub mod fault;
 pub mod hex;

@@ -1,22 +1,22 @@
-use Rattle.std.proofs.Common.{◌≡◌, ℕ, min, List, length, drop, Some, sym, refl, ap, ◌∙◌, arith}
+use Rattle.std.proofs.Common.{◌≡◌, ℕ, min, List, Some, sym, ap, ◌∙◌, arith}
 use Rattle.std.proofs.lemmas.List.{drop_all}
 use Rattle.spelling.specs.Decimal.{capped, spell_on}
 use Rattle.spelling.proofs.Spelling.{spell_stop, spell_more}
 use Rattle.spelling.proofs.decimal.spelt.Goals as goal
 
-pub returns-in-default : goal.returns-in-default
-returns-in-default c =
+pub returns-in_default : goal.returns-in_default
+returns-in_default c =
     spell_stop c.loop-digit.total c.loop-digit.digit-index c.args.digits.now c.loop-digit-test.true
-    (sym c.in-default.is ∙ c.digit-count.ensures)
+    (sym c.in_default.is ∙ c.digit_count.ensures)
     ∙ c.loop-digit.invariant.1
 
 pub loop-digit-preserved : goal.loop-digit-preserved
 loop-digit-preserved c = (
-  c.saturating-add-total.type-inv,
-  spell_more c.loop-digit.total c.loop-digit.digit-index c.in-Some.count c.saturating-add-total.result
+  c.saturating_add-total.type_inv,
+  spell_more c.loop-digit.total c.loop-digit.digit-index c.in-Some.count c.saturating_add-total.result
       c.args.digits.now c.loop-digit-test.true
-      (sym c.in-Some.is ∙ c.digit-count.ensures)
-      (omega (arith, c.saturating-add-total.ensures, c.saturating-mul.ensures))
+      (sym c.in-Some.is ∙ c.digit_count.ensures)
+      (omega (arith, c.saturating_add-total.ensures, c.saturating_mul.ensures))
       ∙ c.loop-digit.invariant.1,
 )
 

@@ -15,11 +15,11 @@ loop-byte-preserved g c p =
     has_written_of_eq g.W.Write.write_str_gives c.args.f.now (hexed (take i xs) ++ hex_pair (get_or xs i 0)) (hexed (take (i + 1) xs))
     c.write.new.self (hexed_more xs i c.loop-byte-test.true)
     (has_written_append g.W.Write.write_str_gives c.args.f.now (hexed (take i xs)) c.loop-byte.f (hex_pair (get_or xs i 0))
-    c.write.new.self so_far (c.in-ok-write.ensures.shows so_far.plain refl))
+    c.write.new.self so_far (c.in_ok-write.ensures.writes so_far.plain refl))
 
 pub returns-clause-writes : goal.returns-clause-writes
 returns-clause-writes g c p e =
     let xs = c.args.self.now.0.now in
     let i = c.loop-byte.byte-index in
     has_written_of_eq g.W.Write.write_str_gives c.args.f.now (hexed (take i xs)) (in_word xs) c.loop-byte.f
-    (hexed_all xs i (not_zero (length xs) c.if-is-empty.ensures) c.loop-byte-test.false) (c.loop-byte.invariant p)
+    (hexed_all xs i (not_zero (length xs) c.if-is_empty.ensures) c.loop-byte-test.false) (c.loop-byte.invariant p)
