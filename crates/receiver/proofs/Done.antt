@@ -1,9 +1,7 @@
 -- One reading, from what was answered, filled, left and taken.
-use Rattle.std.proofs.Common.{◌≡◌, ℕ, Bool, List, ◌++◌, map, Some, Option, sym, ap, ◌∙◌, subst, ap₂}
+use Rattle.std.proofs.Common.{◌≡◌, ℕ, Bool, List, ◌++◌, Option, sym, ◌∙◌, subst, ap₂}
 use Rattle.receiver.specs.Accounting.{Accounted}
-use Rattle.receiver.specs.Answering.{answer_to}
 use Rattle.receiver.specs.Folding.{answers_owed, given}
-use Rattle.receiver.specs.Reading
 use Rattle.receiver.specs.Reading.{listed, owed}
 use Rattle.receiver.specs.Readings.{Side, comes, due, said, said_length, packet_length, filled, Reads}
 use Rattle.receiver.specs.declared.answer.Reading.{Reading as Code}

@@ -1,14 +1,14 @@
 -- In a lawful frame no packet becomes longer than 2,044 bytes and the checksum's width.
-use Rattle.std.proofs.Common.{◌≡◌, ℕ, zero, suc, ◌+◌, ◌-◌, ◌<◌, ◌≤◌, min, Bool, true, false, cond, not, ◌||◌, eqb, leb, ◌⊎◌, List, [], ◌∷◌, ◌++◌, map, length, get_or, take, drop, Some, None, Option, sym, refl, ap, ◌∙◌, subst, inl, inr, arith}
+use Rattle.std.proofs.Common.{◌≡◌, ℕ, zero, suc, ◌+◌, ◌<◌, ◌≤◌, min, Bool, true, false, cond, not, ◌||◌, eqb, leb, ◌⊎◌, List, [], ◌∷◌, ◌++◌, map, length, get_or, take, drop, Some, None, Option, sym, refl, ap, ◌∙◌, subst, inl, inr, arith}
 use Rattle.std.proofs.lemmas.List.{length-append, length-take, length-drop}
-use Rattle.std.proofs.lemmas.Bool.{cases_eq, cases_Bool, cond-true, cond-false, eq-eqb, ne_eqb, eqb-true, leb-true, both_ways, or_cases, cond_both}
+use Rattle.std.proofs.lemmas.Bool.{cases_eq, cases_Bool, cond-true, cond-false, eq-eqb, ne_eqb, eqb-true, leb-true, both_ways, or_cases}
 use Rattle.framing.specs.Header.{count_of, last_of, Header, headers_from}
-use Rattle.framing.specs.Judging.{Question, ask, first_no, questions, padding_questions, notional_questions, body_questions, judgment, judgment_of, is_lawful}
+use Rattle.framing.specs.Judging.{Question, first_no, questions, padding_questions, notional_questions, body_questions, judgment_of, is_lawful}
 use Rattle.framing.specs.Fragments.{Fragment, body, notional, padding, fragment_of, fragments}
 use Rattle.framing.proofs.Coming.{body_is}
 use Rattle.framing.proofs.Rendered.{AllYes, all_yes, lawful_first, asked_notional}
 use Rattle.framing.proofs.Walks.{next_header}
-use Rattle.receiver.specs.Reading.{Standing, aligned, gathering, seeking, gathered, dropped, after_one, verdict_on}
+use Rattle.receiver.specs.Reading.{Standing, aligned, gathering, seeking, dropped, after_one, verdict_on}
 use Rattle.receiver.specs.Accounting.{body_size, bodies}
 use Rattle.receiver.specs.Views.{unread_from, Within}
 use Rattle.receiver.proofs.Steps.{nothing_past}

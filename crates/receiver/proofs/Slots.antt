@@ -1,13 +1,12 @@
 -- One reading, slot by slot.
-use Rattle.std.proofs.Common.{◌≡◌, ℕ, ◌+◌, ◌≤◌, Bool, true, false, List, [], ◌∷◌, ◌++◌, length, take, Some, None, Option, sym, refl, ap, ◌∙◌, subst, ap₂, arith}
+use Rattle.std.proofs.Common.{◌≡◌, ℕ, ◌+◌, ◌≤◌, Bool, List, [], ◌∷◌, ◌++◌, length, take, Some, None, Option, sym, refl, ap, ◌∙◌, subst, ap₂, arith}
 use Rattle.std.proofs.lemmas.List.{append_assoc, length-append}
 use Rattle.framing.specs.declared.slot.Slot.{Slot}
 use Rattle.framing.specs.declared.slot.Slot.TheVariants.{Frame}
-use Rattle.framing.specs.Fragments.{Fragment, body, notional, padding, fragments}
+use Rattle.framing.specs.Fragments.{Fragment, fragments}
 use Rattle.framing.specs.Judging.{lawful}
 use Rattle.receiver.specs.Reading
 use Rattle.receiver.specs.Reading.{Standing, aligned, gathering, seeking, gathered, dropped, after_one, after_all, completed, Found, found_or, first_completed, Outcome, behind, or_on, of_frame, next_number, verdict_on, reading, reading_slots, packet}
-use Rattle.receiver.specs.Accounting.{body_size}
 use Rattle.receiver.specs.Telling.{told_by, Received, Ends}
 use Rattle.receiver.specs.Views.{view, unread_from, standing_in, standing_of, hand_in, found_as, reads_at, Rests, Within}
 use Rattle.receiver.specs.declared.reader.Reader.{Reader}

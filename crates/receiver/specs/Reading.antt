@@ -1,5 +1,5 @@
 -- Reading: what a reader answers to the slots that it takes, one after another.
-use Rattle.std.specs.Prelude.{ℕ, ◌+◌, min, Bool, true, false, cond, List, [], ◌∷◌, ◌++◌, map, length, Some, None, Option}
+use Rattle.std.specs.Prelude.{ℕ, ◌+◌, min, Bool, true, false, List, [], ◌∷◌, ◌++◌, map, length, Some, None, Option}
 use Rattle.framing.specs.declared.slot.Slot.{Slot}
 use Rattle.framing.specs.declared.slot.Slot.TheVariants.{Frame, Gap, Mark}
 use Rattle.framing.specs.Fragments.{Fragment, body, notional, padding, fragments}

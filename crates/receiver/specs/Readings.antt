@@ -1,5 +1,5 @@
 -- What the code's answers are, in the words of the rules, and what they do to the buffer.
-use Rattle.std.specs.Prelude.{◌≡◌, ℕ, Bool, cond, List, [], ◌∷◌, ◌++◌, length, take, drop, Some, None, Ok, Err, Option, Result, nat_le}
+use Rattle.std.specs.Prelude.{◌≡◌, ℕ, Bool, cond, List, ◌++◌, length, take, drop, Some, None, Ok, Err, Option, Result, nat_le}
 use Rattle.framing.specs.declared.slot.Slot.{Slot}
 use Rattle.framing.specs.Judging.{fault_number}
 use Rattle.receiver.specs.Accounting.{Accounted}

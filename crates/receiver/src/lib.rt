@@ -1,5 +1,6 @@
 //! The reading side: slots in, packets and what is missing out.
 #![tactic(auto)]
+
 pub mod answer;
 mod copying;
 mod handing;

@@ -1,5 +1,5 @@
 -- A map and its byte: each is the other's only one.
-use Rattle.std.proofs.Common.{◌≡◌, ℕ, zero, suc, ◌-◌, ◌*◌, ◌%◌, ◌<◌, Bool, true, false, ◌&&◌, ◌||◌, eqb, sym, refl, ap, ◌∙◌}
+use Rattle.std.proofs.Common.{◌≡◌, ℕ, zero, suc, ◌*◌, ◌%◌, ◌<◌, Bool, true, false, ◌&&◌, ◌||◌, eqb, sym, refl, ap, ◌∙◌}
 use lib.Bits.{bit_or}
 use mir.Val.{bool_byte}
 use Rattle.std.proofs.lemmas.Bool.{and_parts, eqb-true}

@@ -1,10 +1,10 @@
 -- A packet is read as exactly the header and the payload that it spells.
-use Rattle.std.proofs.Common.{◌≡◌, ℕ, ◌+◌, ◌-◌, ◌*◌, ◌/◌, ◌%◌, ◌^◌, ◌<◌, Bool, cond, List, ◌∷◌, ◌++◌, length, get_or, take, drop, is_some, Some, None, Ok, Option, Result, sym, refl, ap, ◌∙◌, subst, mod-eq_of_lt, arith, length-append}
+use Rattle.std.proofs.Common.{◌≡◌, ℕ, ◌+◌, ◌*◌, ◌/◌, ◌%◌, ◌^◌, ◌<◌, Bool, cond, List, ◌∷◌, ◌++◌, length, get_or, take, drop, is_some, Some, None, Ok, Option, Result, sym, refl, ap, ◌∙◌, subst, mod-eq_of_lt, arith, length-append}
 use Rattle.std.proofs.lemmas.Nat.{shr-shr, shr_split, shr_below}
 use Rattle.std.proofs.lemmas.List.{drop_at}
 use Rattle.service.specs.Asking.{AllYes}
 use Rattle.service.specs.Encoding.{four_bytes, from_four, frame_id_field, timestamp_field, header_bytes, encoding, field_questions}
-use Rattle.service.specs.Map.{map_byte, map_of, header_length, same}
+use Rattle.service.specs.Map.{map_byte, map_of, header_length}
 use Rattle.service.specs.Reading.{present, timestamp_within, facts_within, read_by, reading}
 use Rattle.service.specs.Spelling.{Below, Lawful, Spells, OneMeaning}
 use Rattle.service.specs.declared.header.Kind.{Kind}

@@ -1,6 +1,7 @@
 //! What a flow's packets are: services, which admit a packet or refuse it with a number, and the sync header that one of
 //! them asks for.
 #![tactic(auto)]
+
 pub mod examples;
 pub mod header;
 mod map;

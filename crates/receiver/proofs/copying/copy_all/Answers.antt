@@ -1,4 +1,4 @@
-use Rattle.std.proofs.Common.{◌≡◌, ℕ, ◌+◌, ◌-◌, List, length, take, ap, ◌∙◌, arith}
+use Rattle.std.proofs.Common.{ℕ, ◌+◌, ◌-◌, List, length, take, ap, ◌∙◌, arith}
 use Rattle.receiver.proofs.Copies.{further, all_copied}
 use Rattle.receiver.proofs.copying.copy_all.Goals as goal
 

@@ -1,4 +1,4 @@
-use Rattle.std.proofs.Common.{ℕ, ◌-◌, cond, List, ◌++◌, length, take, drop, ap, ◌∙◌}
+use Rattle.std.proofs.Common.{ℕ, ◌-◌, List, ◌++◌, length, take, drop, ap, ◌∙◌}
 use native.Mathlib.Nat.{sub-zero}
 use Rattle.service.specs.Serving.{verdict_of}
 use Rattle.receiver.specs.Readings.{said, said_length}

@@ -1,7 +1,7 @@
-use Rattle.std.proofs.Common.{◌≡◌, ℕ, ◌+◌, ◌-◌, ◌<◌, ◌≤◌, min, ◌∷◌, map, length, get_or, take, drop, sym, refl, ap, ◌∙◌, arith}
+use Rattle.std.proofs.Common.{◌≡◌, ℕ, ◌+◌, ◌-◌, ◌<◌, min, ◌∷◌, length, get_or, take, drop, sym, ap, ◌∙◌, arith}
 use Rattle.std.proofs.lemmas.List.{length-drop}
 use Rattle.framing.specs.Header.{count_of, last_of}
-use Rattle.framing.specs.Fragments.{body, fragment_of}
+use Rattle.framing.specs.Fragments.{body}
 use Rattle.framing.proofs.Coming.{next_coming, padding_is, notional_is, body_is, take_clipped}
 use Rattle.receiver.specs.Views.{unread_from}
 use Rattle.receiver.proofs.walking.fragment_at.Goals as goal

@@ -1,4 +1,4 @@
-use Rattle.std.proofs.Common.{◌≡◌, ◌≤◌, length, ap, ◌∙◌, arith}
+use Rattle.std.proofs.Common.{◌≤◌, length, ◌∙◌, arith}
 use Rattle.receiver.proofs.Steps.{runs_out}
 use Rattle.receiver.proofs.reader.Reader.advance.Goals as goal
 

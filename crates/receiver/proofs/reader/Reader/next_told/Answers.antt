@@ -1,7 +1,7 @@
 use Rattle.std.proofs.Common.{◌+◌, ◌≤◌, List, [], ◌++◌, sym, refl, ap, ◌∙◌, arith}
 use Rattle.std.proofs.lemmas.List.{append-nil}
 use Rattle.framing.specs.declared.slot.Slot.{Slot}
-use Rattle.receiver.specs.Views.{view, standing_of, unread_from}
+use Rattle.receiver.specs.Views.{standing_of, unread_from}
 use Rattle.receiver.proofs.Limits.{within_more}
 use Rattle.receiver.proofs.Slots.{begins, hand_out, with_packet, with_nothing, with_told, goes_on_with, packet_short, took_some}
 use Rattle.receiver.proofs.reader.Reader.next_told.Goals as goal

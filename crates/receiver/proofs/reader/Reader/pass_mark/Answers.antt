@@ -1,6 +1,6 @@
-use Rattle.std.proofs.Common.{◌≡◌, ◌≤◌, false, List, [], length, sym, refl, ap, ◌∙◌, ap₂, arith}
+use Rattle.std.proofs.Common.{◌≤◌, List, length, sym, ap, ◌∙◌, ap₂, arith}
 use Rattle.framing.specs.Fragments.{Fragment}
-use Rattle.receiver.specs.Reading.{Standing, aligned, after_mark, dropped_at_mark}
+use Rattle.receiver.specs.Reading.{Standing, after_mark, dropped_at_mark}
 use Rattle.receiver.specs.Views.{standing_of}
 use Rattle.receiver.proofs.Steps.{nothing_past}
 use Rattle.receiver.proofs.reader.Reader.pass_mark.Goals as goal

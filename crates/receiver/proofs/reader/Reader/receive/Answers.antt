@@ -1,5 +1,4 @@
-use Rattle.std.proofs.Common.{◌≡◌, ℕ, ◌+◌, true, List, length, sym, refl, ap, ◌∙◌, subst, ap₂}
-use Rattle.framing.specs.declared.frame.Frame.{Frame}
+use Rattle.std.proofs.Common.{◌≡◌, ℕ, ◌+◌, List, length, sym, ap, ◌∙◌, subst, ap₂}
 use Rattle.framing.specs.Fragments.{fragments}
 use Rattle.framing.specs.Judging.{lawful, is_lawful, judgment}
 use Rattle.receiver.specs.Reading.{Standing, next_number, verdict_on}
