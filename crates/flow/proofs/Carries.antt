@@ -1,11 +1,11 @@
 -- What a cutting and a padding carry.
-use Rattle.std.proofs.Common.{◌≡◌, ℕ, zero, suc, ◌+◌, ◌<◌, ◌≤◌, true, List, [], ◌∷◌, ◌++◌, length, Some, None, Option, sym, refl, ap, ◌∙◌, subst, ap₂, arith}
+use Rattle.std.proofs.Common.{◌≡◌, ℕ, zero, suc, ◌+◌, ◌<◌, ◌≤◌, List, [], ◌∷◌, ◌++◌, length, None, Option, sym, refl, ap, ◌∙◌, subst, ap₂, arith}
 use Rattle.std.specs.List.{flat_map}
 use Rattle.std.proofs.lemmas.List.{append-nil, append_assoc, nil_from_length}
 use Rattle.framing.specs.Judging.{judgment, lawful}
 use Rattle.flow.specs.Carrying.{Part, parts_in, begun_after, ended_by, not_ended, packets_of, CutAtEnd, counted}
 use Rattle.flow.specs.Keeping.{Unfinished, Short}
-use Rattle.flow.specs.Cutting.{Cut, cut, behind, uncutted, closed, grown, uncut, padded, paddings}
+use Rattle.flow.specs.Cutting.{Cut, cut, behind, uncutted, closed, grown, uncut, paddings}
 use Rattle.flow.proofs.Cuts.{cut_by, uncut_none}
 use Rattle.flow.proofs.Lawful.{nothing_begun, Carries, padded_carries, next, next_whole, next_ends, ends_next, next_within, next_parts, next_fills}
 use Rattle.flow.proofs.Packets.{all_right, begun_append, packets_append, part_cut, begun_ended}
@@ -29,7 +29,7 @@ frame_lawful : {width : ℕ} {at : Option (List ℕ)} {f : List ℕ} {qs : List 
 frame_lawful {width} {at} {f} {qs} c fs later = (
   c.long,
   c.judged,
-  subst CutAtEnd (sym c.parts) c.at-end,
+  subst CutAtEnd (sym c.parts) c.at_end,
   subst (λ (r : List Part). LawfulFrames width (begun_after at r) fs) (sym c.parts) later,
 )
 

@@ -1,9 +1,9 @@
 -- One fragment more in a frame that is held by value, as the code has it: `used` bytes of `old` are begun, and `new` is
 -- `old` with the next fragment written behind them.
-use Rattle.std.proofs.Common.{◌≡◌, ℕ, ◌+◌, ◌-◌, ◌<◌, ◌≤◌, min, eqb, List, [], ◌∷◌, ◌++◌, length, take, drop, replicate, sym, refl, ap, ◌∙◌, arith}
-use Rattle.std.proofs.lemmas.List.{append_assoc, length-append, length-take, take_at, drop_at, drop-drop, drop-replicate}
+use Rattle.std.proofs.Common.{◌≡◌, ℕ, ◌+◌, ◌-◌, ◌<◌, ◌≤◌, min, eqb, List, [], ◌∷◌, ◌++◌, length, take, drop, replicate, sym, ap, ◌∙◌, arith}
+use Rattle.std.proofs.lemmas.List.{append_assoc, length-take, take_at, drop_at, drop-drop, drop-replicate}
 use Rattle.framing.specs.Fragments.{body, rendered}
-use Rattle.flow.specs.Cutting.{cut, behind, closed, size, grown, uncut}
+use Rattle.flow.specs.Cutting.{cut, behind, closed, size, grown}
 use Rattle.flow.proofs.Cuts.{length_grown, cut_fits, cut_fills}
 use Rattle.flow.proofs.Frames.{whole_is}
 

@@ -1,13 +1,11 @@
 -- Each call of a flow adds one event to its history, and the run law holds of it.
-use Rattle.std.proofs.Common.{◌≡◌, ℕ, ◌+◌, ◌<◌, ◌≤◌, Bool, true, false, cond, not, ◌&&◌, eqb, leb, List, [], ◌∷◌, ◌++◌, map, length, is_some, Some, None, Ok, Err, Option, Result, sym, refl, ap, ◌∙◌, subst, arith}
+use Rattle.std.proofs.Common.{◌≡◌, ℕ, ◌+◌, ◌<◌, Bool, true, false, cond, not, leb, List, [], ◌∷◌, ◌++◌, map, length, is_some, Some, None, Ok, Err, Option, Result, sym, refl, ap, ◌∙◌, subst, arith}
 use Rattle.std.proofs.lemmas.List.{append-nil}
 use Rattle.std.proofs.lemmas.Bool.{leb-true, and_parts, not-true}
 use Rattle.framing.specs.declared.slot.Slot.{Slot}
 use Rattle.framing.proofs.Rendered.{all_yes}
-use Rattle.channel.specs.Sending.{Put, Sent, what, became, AllMade, Went}
+use Rattle.channel.specs.Sending.{Put, Sent, what, became, Went}
 use Rattle.checksum.specs.Detection.{Detects}
-use Rattle.receiver.specs.Answering.{answer_to}
-use Rattle.receiver.specs.Reading as rules
 use Rattle.receiver.specs.Reading.{Reader, new_reader}
 use Rattle.receiver.specs.Readings.{said, number}
 use Rattle.receiver.specs.Views.{view}

@@ -1,5 +1,5 @@
 -- A packet with its checksum, as the code joins them.
-use Rattle.std.proofs.Common.{◌≡◌, ℕ, ◌+◌, ◌-◌, List, ◌++◌, length, take, replicate, ap, ◌∙◌, arith}
+use Rattle.std.proofs.Common.{◌≡◌, ℕ, ◌+◌, ◌-◌, List, ◌++◌, length, take, replicate, arith}
 use Rattle.std.proofs.lemmas.List.{take_at}
 
 pub joined_is : (packet bytes value four : List ℕ) (width n : ℕ) → n ≡ width → length value ≡ width

@@ -1,5 +1,5 @@
 -- What the writing side keeps from call to call: all that was put is well put, and the packets in it are those accepted.
-use Rattle.std.proofs.Common.{◌≡◌, ℕ, zero, suc, ◌+◌, ◌-◌, ◌<◌, ◌≤◌, Bool, true, false, cond, List, [], ◌∷◌, ◌++◌, map, length, Some, None, Option, sym, refl, ap, ◌∙◌, subst, ap₂, arith}
+use Rattle.std.proofs.Common.{◌≡◌, ℕ, zero, suc, ◌+◌, ◌<◌, ◌≤◌, Bool, true, false, cond, List, [], ◌∷◌, ◌++◌, map, length, None, Option, sym, refl, ap, ◌∙◌, subst, ap₂, arith}
 use Rattle.std.proofs.ByRecursion.{All-push}
 use Rattle.std.proofs.lemmas.List.{append-nil, append_assoc, nil_from_length}
 use Rattle.std.proofs.lemmas.Bool.{both_ways}
@@ -7,8 +7,8 @@ use Rattle.channel.specs.Sending.{Put, a_frame, a_mark}
 use Rattle.flow.specs.Asking.{free}
 use Rattle.flow.specs.Carrying.{Part, parts_in, parts_put, begun_after, ended_by, not_ended, packets_of, WellPut}
 use Rattle.flow.specs.Cutting.{Cut, cut, paddings}
-use Rattle.flow.specs.Writing.{State, Step, cutting, idle, opening, offering, closing}
-use Rattle.flow.proofs.Carries.{LawfulFrames, parts_of, CutCarries, cut_carries, PadsCarry, pads_carry}
+use Rattle.flow.specs.Writing.{State, cutting, idle, opening, offering, closing}
+use Rattle.flow.proofs.Carries.{LawfulFrames, parts_of, cut_carries, pads_carry}
 use Rattle.flow.proofs.Cuts.{cut_over, left_clear}
 use Rattle.flow.proofs.Lawful.{nothing_begun}
 use Rattle.flow.specs.Keeping.{Unfinished, Short, Keeps}

@@ -1,11 +1,10 @@
 -- The frames that a writer puts are lawful for a reader that has followed it.
-use Rattle.std.proofs.Common.{◌≡◌, ℕ, zero, suc, ◌+◌, ◌-◌, ◌<◌, ◌≤◌, Bool, true, false, cond, eqb, ◌⊎◌, List, [], ◌∷◌, ◌++◌, length, take, drop, replicate, Some, None, Option, sym, refl, ap, ◌∙◌, subst, ap₂, inl, inr, ⊎_elim, arith}
+use Rattle.std.proofs.Common.{◌≡◌, ℕ, ◌+◌, ◌-◌, ◌<◌, ◌≤◌, true, eqb, ◌⊎◌, List, [], ◌∷◌, ◌++◌, length, take, replicate, Some, None, Option, sym, refl, ap, ◌∙◌, subst, ap₂, inl, inr, ⊎_elim, arith}
 use Rattle.std.specs.List.{AllByRecursion as All}
 use Rattle.std.proofs.ByRecursion.{All-push}
-use Rattle.std.proofs.lemmas.List.{append-nil, append_assoc, length-append, length-take, length-drop, length-replicate, take-append-drop, nil_from_length}
+use Rattle.std.proofs.lemmas.List.{append-nil, length-append, length-take, length-drop, length-replicate, take-append-drop, nil_from_length}
 use Rattle.std.proofs.lemmas.Bool.{cond-true, cond-false, eq-eqb, ne_eqb, eqb-true, le-leb, cases_eq}
-use Rattle.framing.specs.Judging.{stays_within, judgment, judgment_of, lawful}
-use Rattle.framing.specs.Header.{headers_from}
+use Rattle.framing.specs.Judging.{stays_within, judgment, lawful}
 use Rattle.runlaw.proofs.Folds.{joined_append}
 use Rattle.flow.specs.Carrying.{Part, parts_in, so_far, begun_after, packets_of, CutAtEnd, counted}
 use Rattle.flow.specs.Cutting.{size, grown, uncut, closed, padded}

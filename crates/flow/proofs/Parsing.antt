@@ -1,17 +1,17 @@
 -- Parsing what was laid: the fragments of a frame are those that were cut into it, and the frame is lawful.
-use Rattle.std.proofs.Common.{◌≡◌, ℕ, zero, suc, ◌+◌, ◌-◌, ◌/◌, ◌%◌, ◌<◌, ◌≤◌, Bool, true, false, cond, not, ◌&&◌, ◌||◌, eqb, ltb, leb, ◌⊎◌, List, [], ◌∷◌, ◌++◌, map, length, take, drop, replicate, Some, None, Option, sym, refl, ap, ◌∙◌, subst, ap₂, inl, inr, ⊎_elim, arith}
+use Rattle.std.proofs.Common.{◌≡◌, ℕ, zero, suc, ◌+◌, ◌-◌, ◌<◌, ◌≤◌, Bool, true, false, cond, not, ◌||◌, eqb, leb, ◌⊎◌, List, [], ◌∷◌, ◌++◌, map, length, take, replicate, Some, None, Option, sym, refl, ap, ◌∙◌, ap₂, ⊎_elim, arith}
 use Rattle.std.specs.List.{flat_map, AllByRecursion as All}
 use Rattle.std.proofs.lemmas.List.{append-nil, append_assoc, map-append, length-append, length-replicate, take_at, drop_at}
 use Rattle.std.proofs.lemmas.Bool.{cases_eq, cond-true, cond-false, eq-eqb, ne_eqb, le-leb, lt-ltb, or_left, or_right}
 use Rattle.framing.specs.Header.{count_of, last_of, byte_of, Header, headers_from}
 use Rattle.framing.specs.Judging.{Question, ask, first_no, all_zero, none_open, stays_within, questions, padding_questions, notional_questions, body_questions, judgment_of, judgment, after_first, Judgment, lawful}
-use Rattle.framing.specs.Fragments.{Fragment, body, notional, padding, fragment_of, fragments}
-use Rattle.framing.proofs.Coming.{body_is, padding_is}
+use Rattle.framing.specs.Fragments.{Fragment, body, fragment_of}
+use Rattle.framing.proofs.Coming.{body_is}
 use Rattle.framing.proofs.Rendered.{AllYes}
 use Rattle.framing.proofs.Walks.{past_body}
 use Rattle.runlaw.proofs.Folds.{joined_append}
 use Rattle.flow.specs.Carrying.{Part, part_of, parts_in}
-use Rattle.flow.specs.Keeping.{laid_one, laid, Sized}
+use Rattle.flow.specs.Keeping.{laid, Sized}
 
 -- 1. The bytes of a row of parts, and its headers.
 

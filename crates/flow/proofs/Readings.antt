@@ -1,5 +1,5 @@
 -- One reading against the fold over all slots: what it tells, and what its reader then owes, is what was owed before.
-use Rattle.std.proofs.Common.{◌≡◌, ℕ, ◌+◌, ◌-◌, Bool, true, false, cond, leb, List, [], ◌∷◌, ◌++◌, map, length, take, drop, Some, None, Option, sym, refl, ap, ◌∙◌, ap₂, arith}
+use Rattle.std.proofs.Common.{◌≡◌, ℕ, ◌-◌, Bool, true, false, cond, leb, List, [], ◌∷◌, ◌++◌, map, length, take, drop, Some, None, Option, sym, refl, ap, ◌∙◌, arith}
 use Rattle.std.proofs.lemmas.List.{append_assoc, append-nil}
 use Rattle.framing.specs.declared.slot.Slot.{Slot}
 use Rattle.framing.specs.declared.slot.Slot.TheVariants.{Frame, Gap, Mark}
@@ -7,8 +7,7 @@ use Rattle.framing.specs.Fragments.{Fragment, fragments}
 use Rattle.framing.specs.Judging.{Verdict, lawful, torn}
 use Rattle.receiver.specs.Reading.{Standing, Reader, Told, packet, listed, completed, completes, after_one, after_all, after_frame, told_of_frame, after_slot, number_after, told_of_slot, told_of, standing_after, verdict_on, next_number, Found, found_or, first_completed, Outcome, behind, or_on, of_frame, reading_slots, reading}
 use Rattle.receiver.specs.Reading as tells
-use Rattle.receiver.specs.Answering.{Answer, answer_to, nothing, short, handed_out, quality}
-use Rattle.receiver.specs.Answering as answering
+use Rattle.receiver.specs.Answering.{answer_to, nothing, short, handed_out, quality}
 use Rattle.runlaw.specs.History.{told_by_answer}
 use Rattle.runlaw.specs.Theorem.{answered}
 use Rattle.flow.specs.Since.{number_behind}

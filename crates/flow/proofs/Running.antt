@@ -1,12 +1,12 @@
 -- The law of the writing side.
-use Rattle.std.proofs.Common.{◌≡◌, ℕ, ◌+◌, Bool, List, [], ◌∷◌, ◌++◌, map, length, None, Option, sym, refl, ap, ◌∙◌, subst, ap₂, arith}
+use Rattle.std.proofs.Common.{ℕ, Bool, List, [], ◌∷◌, ◌++◌, map, None, Option, sym, ap, ◌∙◌, subst, arith}
 use Rattle.std.proofs.lemmas.List.{append-nil, append_assoc, map-append, length-append}
 use Rattle.channel.specs.Sending.{Put, a_frame, a_mark}
 use Rattle.runlaw.proofs.Rows.{lawful_when_seeking}
 use Rattle.flow.specs.Carrying.{parts_in, begun_after, counted, WellPut, EachLawful}
 use Rattle.flow.specs.Cutting.{cut, paddings}
-use Rattle.flow.specs.Runs.{Call, opens, offers, closes, step, run, offered, AllAccepted, Carried, Superframe, WritingLaw}
-use Rattle.flow.specs.Writing.{State, Step, idle}
+use Rattle.flow.specs.Runs.{Call, opens, offers, closes, step, run, offered, AllAccepted, Superframe, WritingLaw}
+use Rattle.flow.specs.Writing.{State, idle}
 use Rattle.flow.proofs.Cuts.{cut_count}
 use Rattle.flow.specs.Keeping.{Keeps}
 use Rattle.flow.proofs.Keeps.{keeps_idle, keeps_opening, keeps_offering, keeps_closing}

@@ -1,10 +1,10 @@
 -- Puts in a row, and a cutting on its way.
-use Rattle.std.proofs.Common.{◌≡◌, ℕ, ◌+◌, ◌-◌, ◌<◌, ◌≤◌, List, [], ◌∷◌, ◌++◌, map, length, take, drop, Result, sym, refl, ap, ◌∙◌, subst, arith}
+use Rattle.std.proofs.Common.{◌≡◌, ℕ, ◌+◌, ◌-◌, List, [], ◌∷◌, ◌++◌, map, length, take, drop, Result, sym, ap, ◌∙◌, subst, arith}
 use Rattle.std.proofs.lemmas.List.{append-nil, append_assoc, map-append, length-append, take_rest, drop-drop}
 use Rattle.framing.specs.declared.slot.Slot.{Slot}
 use Rattle.channel.specs.declared.channel.Full.{Full}
 use Rattle.channel.specs.Answers.{PutAnswer}
-use Rattle.channel.specs.Sending.{Put, a_frame, Went}
+use Rattle.channel.specs.Sending.{Put, a_frame}
 use Rattle.channel.proofs.Sends.{went_none, went_join, went_put}
 use Rattle.flow.specs.Cutting.{Cut, cut, behind, uncutted}
 use Rattle.flow.specs.Sending.{Puts}

@@ -1,17 +1,17 @@
 -- From what the writing side keeps to what the run law asks of a writer.
-use Rattle.std.proofs.Common.{◌≡◌, ℕ, ◌+◌, ◌≤◌, Bool, true, false, cond, List, [], ◌∷◌, ◌++◌, map, length, Some, None, Option, sym, refl, ap, ◌∙◌, subst, ap₂, arith}
+use Rattle.std.proofs.Common.{◌≡◌, ℕ, ◌≤◌, Bool, true, false, cond, List, [], ◌∷◌, ◌++◌, map, length, Some, None, Option, sym, refl, ap, ◌∙◌, subst, ap₂, arith}
 use Rattle.std.specs.List.{flat_map}
 use Rattle.std.proofs.lemmas.List.{append-nil, append_assoc, map-append, length-append}
 use Rattle.framing.specs.declared.slot.Slot.{Slot}
 use Rattle.framing.specs.declared.slot.Slot.TheVariants.{Mark}
 use Rattle.framing.specs.Fragments.{Fragment, body, notional, padding, fragments}
-use Rattle.channel.specs.Sending.{Put, a_frame, a_mark, Sent, sent_frame, sent_mark, what}
+use Rattle.channel.specs.Sending.{Sent, sent_frame, sent_mark, what}
 use Rattle.runlaw.specs.History.{History, closing, done, all_sent, packets_accepted, EndsWith}
-use Rattle.runlaw.specs.Law.{FirstPart, FirstOfWaiting, CarriesPackets}
-use Rattle.runlaw.specs.Packets.{Piece, piece_of, pieces_of, known_start, pieces, grouped, still_begun, groups, unfinished, as_cut}
-use Rattle.runlaw.specs.Writing.{begun_with, stands_after_one, stands_after_all, MarkAllowed, Written}
+use Rattle.runlaw.specs.Law.{FirstOfWaiting, CarriesPackets}
+use Rattle.runlaw.specs.Packets.{Piece, piece_of, pieces_of, known_start, pieces, grouped, still_begun, as_cut}
+use Rattle.runlaw.specs.Writing.{begun_with, stands_after_all, MarkAllowed, Written}
 use Rattle.runlaw.proofs.Folds.{joined_append}
-use Rattle.flow.specs.Carrying.{Part, part_of, parts_in, parts_put, so_far, begun_after_one, begun_after, ended_by_one, ended_by, not_ended, packets_of, counted, WellPut}
+use Rattle.flow.specs.Carrying.{Part, part_of, parts_in, parts_put, so_far, begun_after, ended_by, not_ended, packets_of, counted, WellPut}
 use Rattle.flow.specs.Writing.{State}
 use Rattle.flow.specs.Keeping.{Keeps}
 use Rattle.flow.proofs.Packets.{packets_append}

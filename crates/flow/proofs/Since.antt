@@ -1,25 +1,25 @@
 -- A flow since its set-up, from one call to the next; and the run law of each history.
-use Rattle.std.proofs.Common.{◌≡◌, ℕ, ◌+◌, ◌<◌, ◌≤◌, Bool, true, false, cond, List, [], ◌∷◌, ◌++◌, map, length, Some, None, Option, sym, refl, ap, ◌∙◌, subst, ap₂, arith}
+use Rattle.std.proofs.Common.{◌≡◌, ℕ, ◌+◌, ◌<◌, ◌≤◌, Bool, false, cond, List, [], ◌∷◌, ◌++◌, map, length, Some, None, Option, sym, refl, ap, ◌∙◌, subst, ap₂, arith}
 use Rattle.std.specs.List.{AllByRecursion as All}
 use Rattle.std.proofs.lemmas.List.{append-nil, append_assoc, map-append, length-append, nil_from_length}
 use Rattle.framing.specs.declared.slot.Slot.{Slot}
 use Rattle.framing.specs.Fragments.{Fragment}
 use Rattle.channel.specs.Sending.{Sent, sent_frame, sent_mark, what, became, AllMade}
 use Rattle.checksum.specs.Detection.{Detects}
-use Rattle.receiver.specs.Reading.{Reader, new_reader, Told, packet, listed, completes, after_all, aligned, told_of, standing_after, owed, Outcome, reading}
+use Rattle.receiver.specs.Reading.{Reader, new_reader, Told, packet, listed, completes, after_all, aligned, told_of, standing_after, owed, reading}
 use Rattle.receiver.specs.Answering.{Answer, answer_to, nothing}
 use Rattle.runlaw.specs.History as history
 use Rattle.runlaw.specs.History.{Call, Reply, Event, History, offer, refused, done, answers, all_sent, all_taken, Came, packets_accepted, accepted_by, answers_given, told_by, told_by_answer, EndsWith}
 use Rattle.runlaw.specs.Law.{RunLaw}
-use Rattle.runlaw.specs.Theorem.{answered, Admitted, Shown}
+use Rattle.runlaw.specs.Theorem.{answered, Admitted}
 use Rattle.runlaw.proofs.Events.{one_more, ends_with_last}
 use Rattle.runlaw.proofs.Holds.{run_law_holds}
 use Rattle.flow.specs.Asking.{free}
 use Rattle.flow.specs.Keeping.{Keeps}
 use Rattle.flow.specs.Since.{Since, Read, event, number_behind}
-use Rattle.flow.specs.Writing.{State, Step, idle, opening, offering, closing}
+use Rattle.flow.specs.Writing.{State, idle, opening, offering, closing}
 use Rattle.flow.proofs.Keeps.{keeps_idle, keeps_opening, keeps_offering, keeps_closing}
-use Rattle.flow.proofs.Readings.{told_append, standing_append, number_append, Goes, reading_goes, answer_told, nothing_told}
+use Rattle.flow.proofs.Readings.{told_append, standing_append, number_append, reading_goes, answer_told, nothing_told}
 use Rattle.flow.proofs.Shows.{well_written, carries_packets}
 
 -- 1. One event more.

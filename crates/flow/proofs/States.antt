@@ -1,5 +1,5 @@
 -- The state of a writer, part by part.
-use Rattle.std.proofs.Common.{◌≡◌, ℕ, ◌-◌, ◌<◌, ◌≤◌, List, [], length, take, drop, refl, ap, ◌∙◌, arith}
+use Rattle.std.proofs.Common.{◌≡◌, ℕ, ◌<◌, ◌≤◌, [], length, take, ap, arith}
 use Rattle.std.proofs.lemmas.List.{length-take}
 use Rattle.flow.specs.declared.writer.Writer.{Writer}
 use Rattle.flow.specs.Writing.{State, state_of}

@@ -1,8 +1,8 @@
 -- What a step of an open superframe leaves of the room that is kept for it.
-use Rattle.std.proofs.Common.{◌≡◌, ℕ, ◌+◌, ◌≤◌, List, [], ◌∷◌, ◌++◌, map, length, ap, ◌∙◌, arith}
+use Rattle.std.proofs.Common.{ℕ, ◌+◌, ◌≤◌, List, [], ◌∷◌, map, arith}
 use Rattle.std.proofs.lemmas.List.{length-map, length-append}
 use Rattle.framing.specs.declared.slot.Slot.{Slot}
-use Rattle.channel.specs.Sending.{Put, a_frame, a_mark, Went}
+use Rattle.channel.specs.Sending.{a_frame, a_mark, Went}
 use Rattle.flow.specs.Cutting.{Cut, cut, paddings}
 use Rattle.flow.specs.Sending.{Puts}
 use Rattle.flow.specs.Writing.{State, cutting, closing}

@@ -1,5 +1,5 @@
 -- The run law on the calls of a flow: what a call adds to the flow's history, and that the law holds of it.
-use Rattle.std.specs.Prelude.{◌≡◌, ℕ, Bool, List, [], ◌∷◌, ◌++◌, map, Some, None, Ok, Err, Option, Result}
+use Rattle.std.specs.Prelude.{◌≡◌, ℕ, List, [], ◌∷◌, ◌++◌, map, None, Ok, Err, Option, Result}
 use Rattle.framing.specs.declared.slot.Slot.{Slot}
 use Rattle.channel.specs.Sending.{Put, what, became, AllMade}
 use Rattle.receiver.specs.Readings.{said, number}
@@ -16,7 +16,7 @@ use Rattle.flow.specs.declared.token.SuperframeToken.{SuperframeToken}
 use Rattle.flow.specs.Calls.{Tied}
 use Rattle.flow.specs.Numbers.{open_number, offer_number, close_number, inside}
 use Rattle.flow.specs.Since.{Since}
-use Rattle.flow.specs.Writing.{Step, state_of}
+use Rattle.flow.specs.Writing.{state_of}
 
 -- 1. What a call replies, in the words of histories, and what it has to send.
 

@@ -1,5 +1,5 @@
 -- The writing side of a flow: what it holds, and what each call does to it.
-use Rattle.std.specs.Prelude.{◌≡◌, ℕ, ◌+◌, Bool, true, false, List, [], ◌∷◌, ◌++◌, map, length, take, Some, None, Option}
+use Rattle.std.specs.Prelude.{◌≡◌, ℕ, Bool, true, false, List, [], ◌∷◌, ◌++◌, map, take, Some, None, Option}
 use Rattle.framing.specs.declared.frame.Frame.{Frame}
 use Rattle.channel.specs.Sending.{Put, a_frame, a_mark}
 use Rattle.flow.specs.declared.writer.Writer.{Writer}

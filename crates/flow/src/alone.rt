@@ -48,7 +48,7 @@ pub(crate) fn send_alone<C: Channel, K: Checksum, S: Service>(
     n: usize,
     packet: &[u8],
 ) -> Result<(), SendFault>
-    ensures { SentAlone value n packet.now result flow.old flow.new }
+    ensures { SentAlone K.value n packet.now result flow.old flow.new }
 {
     let token = flow.opening(n)?;
     let (token, answer) = flow.offer(token, packet);

@@ -49,7 +49,7 @@ impl Writer {
 /// keeps is enough for every frame, so that no put is refused.
 pub(crate) fn send<C: Channel>(channel: &mut C, writer: &mut Writer, bytes: &[u8]) -> usize
     ensures cuts { Cutted (cut writer.old.left (state_of writer.old).begun bytes.now) (state_of writer.old) (state_of writer.new) (drop result bytes.now) }
-    ensures puts { Puts slots space made tied (map a_frame (cut writer.old.left (state_of writer.old).begun bytes.now).full) channel.old channel.new }
+    ensures puts { Puts C.slots C.space C.made C.tied (map a_frame (cut writer.old.left (state_of writer.old).begun bytes.now).full) channel.old channel.new }
     ensures within { result ≤ length bytes.now }
 {
     let mut at = 0;

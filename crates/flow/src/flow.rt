@@ -42,8 +42,8 @@ pub struct Flow<C, K, S> {
 impl<C: Channel, K: Checksum, S: Service> Flow<C, K, S> {
     /// A flow over `channel`, with no superframe open and nothing carried over.
     pub fn new(channel: C, checksum: K, service: S, id: u16, fasb: bool) -> Flow<C, K, S>
-        ensures parts { SetUp space tied channel checksum service id fasb result }
-        ensures runs { slots channel ≡ [] → tied channel → HistoryOf slots space made tied width value verdict [] result × RunLaw fasb width reach value [] }
+        ensures parts { SetUp C.space C.tied channel checksum service id fasb result }
+        ensures runs { C.slots channel ≡ [] → C.tied channel → HistoryOf C.slots C.space C.made C.tied K.width K.value S.verdict [] result × RunLaw fasb K.width K.reach K.value [] }
     {
         Flow {
             channel,
@@ -58,21 +58,21 @@ impl<C: Channel, K: Checksum, S: Service> Flow<C, K, S> {
 
     /// The channel's room.
     pub fn room(&self) -> usize
-        ensures { result ≡ space self.now.channel }
+        ensures { result ≡ C.space self.now.channel }
     {
         self.channel.room()
     }
 
     /// Whether a slot waits on the channel.
     pub fn waits(&self) -> bool
-        ensures { result ≡ waiting (slots self.now.channel) }
+        ensures { result ≡ waiting (C.slots self.now.channel) }
     {
         self.channel.waits()
     }
 
     /// Whether an opening for `n` frames would be accepted, and why not.
     pub fn check_opening(&self, n: usize) -> Result<(), OpenFault>
-        ensures { refusal open_number result ≡ first_no (opening_questions n (state_of self.now.writer) (space self.now.channel)) }
+        ensures { refusal open_number result ≡ first_no (opening_questions n (state_of self.now.writer) (C.space self.now.channel)) }
     {
         if self.writer.opened {
             return Err(OpenFault::AlreadyOpen);
@@ -87,7 +87,7 @@ impl<C: Channel, K: Checksum, S: Service> Flow<C, K, S> {
     }
 
     fn start(&mut self, n: usize) -> Result<SuperframeToken, OpenFault>
-        ensures { OpeningAnswer slots space made tied n result self.old self.new }
+        ensures { OpeningAnswer C.slots C.space C.made C.tied n result self.old self.new }
     {
         self.check_opening(n)?;
         begin(&mut self.channel, &mut self.writer, n as u8);
@@ -103,8 +103,8 @@ impl<C: Channel, K: Checksum, S: Service> Flow<C, K, S> {
 
     /// Whether an offer of this packet would be accepted, and why not.
     pub fn check_offer(&self, token: &SuperframeToken, packet: &[u8]) -> Result<(), OfferFault>
-        ensures asked { refusal offer_number result ≡ first_no (offer_questions token.now.flow self.now.id self.now.fasb width (verdict self.now.service packet.now) packet.now (state_of self.now.writer)) }
-        ensures inside { IfErr result (λ e. inside e ≡ (if nat_eq (offer_number e) 6 then verdict self.now.service packet.now else None)) }
+        ensures asked { refusal offer_number result ≡ first_no (offer_questions token.now.flow self.now.id self.now.fasb K.width (S.verdict self.now.service packet.now) packet.now (state_of self.now.writer)) }
+        ensures inside { IfErr result (λ e. inside e ≡ (if nat_eq (offer_number e) 6 then S.verdict self.now.service packet.now else None)) }
     {
         if !self.holds(token) {
             return Err(OfferFault::NotOpenHere);
@@ -125,7 +125,7 @@ impl<C: Channel, K: Checksum, S: Service> Flow<C, K, S> {
     }
 
     fn accept(&mut self, token: &SuperframeToken, packet: &[u8]) -> Result<(), OfferFault>
-        ensures { OfferAnswer slots space made tied width value verdict token.now packet.now result self.old self.new }
+        ensures { OfferAnswer C.slots C.space C.made C.tied K.width K.value S.verdict token.now packet.now result self.old self.new }
     {
         self.check_offer(token, packet)?;
         let width = self.checksum.value_len();
@@ -139,7 +139,7 @@ impl<C: Channel, K: Checksum, S: Service> Flow<C, K, S> {
     }
 
     fn end(&mut self, token: SuperframeToken) -> Result<(), CloseFault>
-        ensures { ClosingAnswer slots space made tied token result self.old self.new }
+        ensures { ClosingAnswer C.slots C.space C.made C.tied token result self.old self.new }
     {
         if !self.holds(&token) {
             return Err(CloseFault::WrongToken(token));
@@ -150,7 +150,7 @@ impl<C: Channel, K: Checksum, S: Service> Flow<C, K, S> {
     }
 
     fn read(&mut self, buffer: &mut [u8]) -> Result<Reading, BufferTooShort>
-        ensures { ReadingAnswer slots space tied width value verdict buffer.old buffer.new result self.old self.new }
+        ensures { ReadingAnswer C.slots C.space C.tied K.width K.value S.verdict buffer.old buffer.new result self.old self.new }
     {
         self.reader.read(
             &mut self.channel,
@@ -165,8 +165,8 @@ impl<C: Channel, K: Checksum, S: Service> Flow<C, K, S> {
 impl<C: Channel, K: Checksum, S: Service> Flow<C, K, S> {
     /// Opens a superframe of `n` frames. What was carried over is cut first.
     pub fn opening(&mut self, n: usize) -> Result<SuperframeToken, OpenFault>
-        ensures answer { OpeningAnswer slots space made tied n result self.old self.new }
-        ensures runs { (h : History) → HistoryOf slots space made tied width value verdict h self.old → Happened slots space made tied width reach value verdict (an_opening n) (opening_reply result) (if_accepted result (opening n (state_of self.old.writer)).puts) [] h self.old self.new }
+        ensures answer { OpeningAnswer C.slots C.space C.made C.tied n result self.old self.new }
+        ensures runs { (h : History) → HistoryOf C.slots C.space C.made C.tied K.width K.value S.verdict h self.old → Happened C.slots C.space C.made C.tied K.width K.reach K.value S.verdict (an_opening n) (opening_reply result) (if_accepted result (opening n (state_of self.old.writer)).puts) [] h self.old self.new }
     {
         self.start(n)
     }
@@ -178,8 +178,8 @@ impl<C: Channel, K: Checksum, S: Service> Flow<C, K, S> {
         packet: &[u8],
     ) -> (SuperframeToken, Result<(), OfferFault>)
         ensures token { result.0 ≡ token }
-        ensures answer { OfferAnswer slots space made tied width value verdict token packet.now result.1 self.old self.new }
-        ensures runs { (h : History) → HistoryOf slots space made tied width value verdict h self.old → Happened slots space made tied width reach value verdict (an_offer packet.now) (offer_reply result.1) (if_accepted result.1 (offering (packet.now ++ value packet.now) (state_of self.old.writer)).puts) [] h self.old self.new }
+        ensures answer { OfferAnswer C.slots C.space C.made C.tied K.width K.value S.verdict token packet.now result.1 self.old self.new }
+        ensures runs { (h : History) → HistoryOf C.slots C.space C.made C.tied K.width K.value S.verdict h self.old → Happened C.slots C.space C.made C.tied K.width K.reach K.value S.verdict (an_offer packet.now) (offer_reply result.1) (if_accepted result.1 (offering (packet.now ++ K.value packet.now) (state_of self.old.writer)).puts) [] h self.old self.new }
     {
         let answer = self.accept(&token, packet);
         (token, answer)
@@ -187,16 +187,16 @@ impl<C: Channel, K: Checksum, S: Service> Flow<C, K, S> {
 
     /// Closes the superframe of `token`: what is left of it is padding. A refused closing gives the token back.
     pub fn closing(&mut self, token: SuperframeToken) -> Result<(), CloseFault>
-        ensures answer { ClosingAnswer slots space made tied token result self.old self.new }
-        ensures runs { (h : History) → HistoryOf slots space made tied width value verdict h self.old → Happened slots space made tied width reach value verdict a_closing (closing_reply result) (if_accepted result (closing (state_of self.old.writer)).puts) [] h self.old self.new }
+        ensures answer { ClosingAnswer C.slots C.space C.made C.tied token result self.old self.new }
+        ensures runs { (h : History) → HistoryOf C.slots C.space C.made C.tied K.width K.value S.verdict h self.old → Happened C.slots C.space C.made C.tied K.width K.reach K.value S.verdict a_closing (closing_reply result) (if_accepted result (closing (state_of self.old.writer)).puts) [] h self.old self.new }
     {
         self.end(token)
     }
 
     /// Reads on until one answer is due. A packet that is handed out is put at the front of the buffer, without its checksum.
     pub fn reading(&mut self, buffer: &mut [u8]) -> Result<Reading, BufferTooShort>
-        ensures answer { ReadingAnswer slots space tied width value verdict buffer.old buffer.new result self.old self.new }
-        ensures runs { (h : History) → HistoryOf slots space made tied width value verdict h self.old → Happened slots space made tied width reach value verdict a_reading (reading_reply result buffer.new) [] (if_accepted result (outcome slots width self.old).taken) h self.old self.new }
+        ensures answer { ReadingAnswer C.slots C.space C.tied K.width K.value S.verdict buffer.old buffer.new result self.old self.new }
+        ensures runs { (h : History) → HistoryOf C.slots C.space C.made C.tied K.width K.value S.verdict h self.old → Happened C.slots C.space C.made C.tied K.width K.reach K.value S.verdict a_reading (reading_reply result buffer.new) [] (if_accepted result (outcome C.slots K.width self.old).taken) h self.old self.new }
     {
         self.read(buffer)
     }

@@ -1,4 +1,6 @@
 //! One flow of packets over a channel: both sides, and the run law on its calls.
+#![tactic(auto)]
+
 mod alone;
 mod cutting;
 pub mod faults;

@@ -25,7 +25,7 @@ fn with_padding(frame: Frame, used: usize) -> Frame
 /// Fills what is left of the superframe with padding, puts its frames and the mark, and closes it. The room that an opening
 /// keeps is enough for them, so that no put is refused.
 pub(crate) fn finish<C: Channel>(channel: &mut C, writer: &mut Writer)
-    ensures { Done slots space made tied (closing (state_of writer.old)) writer.new channel.old channel.new }
+    ensures { Done C.slots C.space C.made C.tied (closing (state_of writer.old)) writer.new channel.old channel.new }
 {
     while writer.left > 0 {
         let frame = with_padding(writer.frame, writer.used);

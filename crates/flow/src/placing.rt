@@ -9,7 +9,7 @@ use channel::channel::Channel;
 /// Cuts `bytes` into the rest of the open superframe, puts each full frame, and carries over what does not fit.
 pub(crate) fn place<C: Channel>(channel: &mut C, writer: &mut Writer, bytes: &[u8])
     requires { (writer.old.opened ≡ true) × ((0 < writer.old.left) × (length bytes.now ≤ 2048)) }
-    ensures { Done slots space made tied (offering bytes.now (state_of writer.old)) writer.new channel.old channel.new }
+    ensures { Done C.slots C.space C.made C.tied (offering bytes.now (state_of writer.old)) writer.new channel.old channel.new }
 {
     let at = send(channel, writer, bytes);
     writer.carry_over(&bytes[at..]);
@@ -18,7 +18,7 @@ pub(crate) fn place<C: Channel>(channel: &mut C, writer: &mut Writer, bytes: &[u
 /// Opens a superframe of `n` frames, and cuts into them what was carried over.
 pub(crate) fn begin<C: Channel>(channel: &mut C, writer: &mut Writer, n: u8)
     requires { (writer.old.opened ≡ false) × (0 < n) }
-    ensures { Done slots space made tied (opening n (state_of writer.old)) writer.new channel.old channel.new }
+    ensures { Done C.slots C.space C.made C.tied (opening n (state_of writer.old)) writer.new channel.old channel.new }
 {
     let carried = writer.carried;
     let kept = writer.kept;

@@ -1,4 +1,6 @@
 //! Scripts: a list of steps, run on a newly set-up flow.
+#![tactic(auto)]
+
 mod hand;
 mod progress;
 pub mod reply;

@@ -29,7 +29,7 @@ pub fn run_steps<C: Channel, K: Checksum, S: Service>(
     fasb: bool,
     steps: &[Step],
 ) -> Outcome<C, K, S>
-    ensures { RanScript slots space made tied width value verdict reach channel checksum service id fasb steps.now result }
+    ensures { RanScript C.slots C.space C.made C.tied K.width K.value S.verdict K.reach channel checksum service id fasb steps.now result }
 {
     let mut session = Session::begin(channel, checksum, service, id, fasb);
     let mut replies = Vec::new(heap);

@@ -77,7 +77,7 @@ impl<C: Channel, K: Checksum, S: Service> Session<C, K, S> {
         id: u16,
         fasb: bool,
     ) -> Session<C, K, S>
-        ensures flow { SetUp space tied channel checksum service id fasb result.flow }
+        ensures flow { SetUp C.space C.tied channel checksum service id fasb result.flow }
         ensures hand { result.hand ≡ Empty }
     {
         let flow = Flow::new(channel, checksum, service, id, fasb);
@@ -89,7 +89,7 @@ impl<C: Channel, K: Checksum, S: Service> Session<C, K, S> {
 
     /// An opening. The token comes into the hand.
     pub(crate) fn open(self, frames: usize) -> (Session<C, K, S>, Reply)
-        ensures { Opens slots space made tied width value verdict frames result.1 self result.0 }
+        ensures { Opens C.slots C.space C.made C.tied K.width K.value S.verdict frames result.1 self result.0 }
     {
         let Session { mut flow, hand } = self;
         match flow.opening(frames) {
@@ -109,7 +109,7 @@ impl<C: Channel, K: Checksum, S: Service> Session<C, K, S> {
 
     /// An offer, with the token in hand.
     pub(crate) fn offer(self, packet: &[u8]) -> (Session<C, K, S>, Reply)
-        ensures { OffersFrom slots space made tied width value verdict self.hand packet.now result.1 self result.0 }
+        ensures { OffersFrom C.slots C.space C.made C.tied K.width K.value S.verdict self.hand packet.now result.1 self result.0 }
     {
         let Session { mut flow, hand } = self;
         match hand {
@@ -135,7 +135,7 @@ impl<C: Channel, K: Checksum, S: Service> Session<C, K, S> {
 
     /// A closing, with the token in hand. It is never refused.
     pub(crate) fn close(self) -> (Session<C, K, S>, Reply)
-        ensures { ClosesFrom slots space made tied width value verdict self.hand result.1 self result.0 }
+        ensures { ClosesFrom C.slots C.space C.made C.tied K.width K.value S.verdict self.hand result.1 self result.0 }
     {
         let Session { mut flow, hand } = self;
         match hand {
@@ -161,7 +161,7 @@ impl<C: Channel, K: Checksum, S: Service> Session<C, K, S> {
 
     /// One reading into this buffer, of which only a packet that was handed out is kept.
     pub(crate) fn read(self, mut buffer: Vec<u8>) -> (Session<C, K, S>, Answered)
-        ensures { ReadInto slots space made tied width value verdict buffer.items result.1 self result.0 }
+        ensures { ReadInto C.slots C.space C.made C.tied K.width K.value S.verdict buffer.items result.1 self result.0 }
     {
         let Session { mut flow, hand } = self;
         let answer = flow.reading(buffer.as_mut_slice());
@@ -178,7 +178,7 @@ impl<C: Channel, K: Checksum, S: Service> Session<C, K, S> {
 
     /// Readings, each into a buffer of 2,044 bytes, through the first that answers nothing. Memory is asked for before each.
     pub(crate) fn drain(self, heap: Global) -> (Session<C, K, S>, Progress)
-        ensures { Took slots space made tied width value verdict Drain result.1 self result.0 }
+        ensures { Took C.slots C.space C.made C.tied K.width K.value S.verdict Drain result.1 self result.0 }
     {
         let mut session = self;
         let mut answers = Vec::new(heap);
@@ -198,7 +198,7 @@ impl<C: Channel, K: Checksum, S: Service> Session<C, K, S> {
 
     /// One step. Memory is asked for before anything is done, so that no answer is lost.
     pub(crate) fn take_step(self, heap: Global, step: &Step) -> (Session<C, K, S>, Progress)
-        ensures { Took slots space made tied width value verdict step.now result.1 self result.0 }
+        ensures { Took C.slots C.space C.made C.tied K.width K.value S.verdict step.now result.1 self result.0 }
     {
         match step {
             Step::Open { frames } => {
@@ -234,7 +234,7 @@ impl<C: Channel, K: Checksum, S: Service> Session<C, K, S> {
 
     /// Closes the superframe that is open, if any, and gives the flow.
     pub fn end(self) -> Flow<C, K, S>
-        ensures { Ended slots space made tied width value verdict self.hand self.flow result }
+        ensures { Ended C.slots C.space C.made C.tied K.width K.value S.verdict self.hand self.flow result }
     {
         let (session, _) = self.close();
         let Session { flow, hand } = session;

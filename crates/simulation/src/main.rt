@@ -1,4 +1,6 @@
 //! Random runs of a flow, and the run law checked on each by direct computation.
+#![tactic(auto)]
+
 mod carried;
 mod counts;
 mod crc;

@@ -1,4 +1,6 @@
 //! Runs published check vectors of CRC-16 and says of each whether the code agrees.
+#![tactic(auto)]
+
 mod edges;
 mod examples;
 mod vectors;

@@ -1,4 +1,4 @@
-use Rattle.std.proofs.Common.{◌≡◌, ℕ, ◌-◌, ◌<◌, ◌≤◌, List, [], ◌∷◌, map, length, take, drop, refl, ap, ◌∙◌, subst, arith}
+use Rattle.std.proofs.Common.{◌≡◌, ◌-◌, ◌≤◌, length, take, drop, ap, arith}
 use Rattle.std.proofs.lemmas.List.{length-drop, take_rest}
 use Rattle.channel.specs.Sending.{a_frame}
 use Rattle.flow.specs.Writing.{state_of, frames}
@@ -14,12 +14,12 @@ loop-at-preserved-in-Some g c =
       omega arith,
       underway_more c.args.bytes.now c.loop-at.at c.fill-n.result.0 (frames c.fill-n.result.1) c.loop-at.invariant.1
           c.fill-n.ensures.cuts c.fill-n.ensures.stays
-          (rw is (puts_one g.C.Channel.slots g.C.Channel.space g.C.Channel.made g.C.Channel.tied (a_frame c.in-Some.frame.bytes) c.put-frame.result _ _ c.put-frame.ensures)),
+          (rw is (puts_one g.C.Channel.slots g.C.Channel.space g.C.Channel.made g.C.Channel.tied (a_frame c.in-Some.frame.bytes) c.put_frame.result _ _ c.put_frame.ensures)),
     )
 
 pub loop-at-preserved : goal.loop-at-preserved
 loop-at-preserved g c =
-    let is = ap frames c.in-default.is in
+    let is = ap frames c.in_default.is in
     let within : c.fill-n.result.0 ≤ length (take (length c.args.bytes.now - c.loop-at.at) (drop c.loop-at.at c.args.bytes.now)) = c.fill-n.ensures.moves.1 in
     let short = simp (take_rest, length-drop) at within in (
       omega arith,

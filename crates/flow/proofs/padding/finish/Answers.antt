@@ -7,9 +7,9 @@ use Rattle.flow.proofs.padding.finish.Goals as goal
 
 pub loop-writer-preserved : goal.loop-writer-preserved
 loop-writer-preserved g c =
-    padding_more c.with-padding-frame.result.bytes c.loop-writer.invariant (omega arith) c.with-padding-frame.ensures c.advance.ensures
+    padding_more c.with_padding-frame.result.bytes c.loop-writer.invariant (omega arith) c.with_padding-frame.ensures c.advance.ensures
     (puts_one g.C.Channel.slots g.C.Channel.space g.C.Channel.made g.C.Channel.tied
-    (a_frame c.with-padding-frame.result.bytes) c.put-frame.result _ _ c.put-frame.ensures)
+    (a_frame c.with_padding-frame.result.bytes) c.put_frame.result _ _ c.put_frame.ensures)
 
 pub returns : goal.returns
 returns g c =
@@ -19,5 +19,5 @@ returns g c =
       puts =
           padding_ends c.loop-writer.invariant none
           (puts_one g.C.Channel.slots g.C.Channel.space g.C.Channel.made g.C.Channel.tied
-          a_mark c.put-mark.result _ _ c.put-mark.ensures);
+          a_mark c.put_mark.result _ _ c.put_mark.ensures);
     }

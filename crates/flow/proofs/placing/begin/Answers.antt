@@ -1,7 +1,7 @@
-use Rattle.std.proofs.Common.{◌≡◌, ℕ, ◌-◌, List, take, ap, ◌∙◌, subst, ap₂, arith}
+use Rattle.std.proofs.Common.{◌≡◌, ℕ, ◌-◌, List, take, ap, subst, ap₂, arith}
 use Rattle.flow.specs.Cutting.{Cut, cut}
 use Rattle.flow.specs.Sending.{Done}
-use Rattle.flow.specs.Writing.{cutting, state_of}
+use Rattle.flow.specs.Writing.{cutting}
 use Rattle.flow.proofs.States.{begun_none}
 use Rattle.flow.proofs.placing.begin.Goals as goal
 

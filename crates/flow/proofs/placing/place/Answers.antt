@@ -1,4 +1,4 @@
-use Rattle.std.proofs.Common.{◌≡◌, ℕ, ◌-◌, ◌<◌, ◌≤◌, length, take, drop, sym, ap, ◌∙◌, arith}
+use Rattle.std.proofs.Common.{◌≡◌, ◌-◌, length, take, drop, ap, ◌∙◌, arith}
 use Rattle.std.proofs.lemmas.List.{take_rest}
 use Rattle.flow.specs.Cutting.{cut}
 use Rattle.flow.specs.Writing.{state_of}
@@ -11,14 +11,14 @@ returns g c =
     let cuts = c.send-at.ensures.cuts in
     record {
       state =
-          c.carry-over.ensures
+          c.carry_over.ensures
           ∙ same_state _ _ (cuts.opened ∙ c.requires.0) cuts.left cuts.unfinished
           (take_rest c.args.bytes.now c.send-at.result ∙ cuts.rest_is);
       puts = c.send-at.ensures.puts;
     }
 
-pub carry-over-requires : goal.carry-over-requires
-carry-over-requires g c =
+pub carry_over-requires : goal.carry_over-requires
+carry_over-requires g c =
     let cuts = c.send-at.ensures.cuts in
     let begun = (state_of c.args.writer.now).begun in
     let part : length (take (length c.args.bytes.now - c.send-at.result) (drop c.send-at.result c.args.bytes.now)) ≡ length (cut c.args.writer.now.left begun c.args.bytes.now).over =

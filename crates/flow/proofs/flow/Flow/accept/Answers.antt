@@ -1,4 +1,4 @@
-use Rattle.std.proofs.Common.{◌≡◌, ℕ, ◌+◌, ◌-◌, ◌≤◌, true, eqb, List, ◌++◌, length, take, replicate, sym, refl, ap, ◌∙◌, subst, ap₂, arith}
+use Rattle.std.proofs.Common.{◌≡◌, ℕ, ◌-◌, true, List, ◌++◌, replicate, sym, refl, ap, ◌∙◌, subst, ap₂, arith}
 use Rattle.std.proofs.lemmas.List.{take-append-drop}
 use Rattle.std.proofs.lemmas.Bool.{and_parts}
 use Rattle.framing.proofs.Rendered.{all_yes}
@@ -15,19 +15,19 @@ pub returns : goal.returns
 returns g c =
     let old = c.args.self.now in
     let packet = c.args.packet.now in
-    let asked = c.in-ok-check-offer.ensures.asked in
+    let asked = c.in_ok-check_offer.ensures.asked in
     let yes_all =
     all_yes
     (offer_questions c.args.token.now.flow old.id old.fasb g.K.Checksum.width (g.S.Service.verdict old.service packet)
     packet (state_of old.writer))
     (sym asked) in
     let opened : old.writer.opened ≡ true = (and_parts _ _ yes_all.0).0 in
-    let value_is : c.value-of.result ≡ g.K.Checksum.value packet ++ replicate (4 - g.K.Checksum.width) 0 =
-    sym (take-append-drop g.K.Checksum.width c.value-of.result) ∙ ap₂ (λ (a b : List ℕ). a ++ b) c.value-of.ensures.front c.value-of.ensures.rest in
+    let value_is : c.value_of.result ≡ g.K.Checksum.value packet ++ replicate (4 - g.K.Checksum.width) 0 =
+    sym (take-append-drop g.K.Checksum.width c.value_of.result) ∙ ap₂ (λ (a b : List ℕ). a ++ b) c.value_of.ensures.front c.value_of.ensures.rest in
     let bytes =
-    joined_is packet c.with-checksum-bytes.result (g.K.Checksum.value packet) c.value-of.result g.K.Checksum.width
-    c.value-len-width.result c.value-len-width.ensures (g.met.K.Checksum.sized packet) value_is
-    c.with-checksum-bytes.ensures in
+    joined_is packet c.with_checksum-bytes.result (g.K.Checksum.value packet) c.value_of.result g.K.Checksum.width
+    c.value_len-width.result c.value_len-width.ensures (g.met.K.Checksum.sized packet) value_is
+    c.with_checksum-bytes.ensures in
     let placed =
     subst
     (λ (b : List ℕ).

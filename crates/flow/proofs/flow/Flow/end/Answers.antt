@@ -1,4 +1,4 @@
-use Rattle.std.proofs.Common.{◌≡◌, ℕ, true, cond, List, Some, None, Option, sym, refl, ap, ◌∙◌}
+use Rattle.std.proofs.Common.{◌≡◌, ℕ, true, cond, Some, None, Option, sym, refl, ap}
 use Rattle.std.proofs.lemmas.Bool.{and_parts, both_ways}
 use Rattle.channel.specs.Sending.{Went}
 use Rattle.flow.specs.Calls.{Tied}

@@ -1,4 +1,4 @@
-use Rattle.std.proofs.Common.{◌≡◌, ◌+◌, ◌≤◌, [], sym, refl, ap, ◌∙◌, arith}
+use Rattle.std.proofs.Common.{◌+◌, ◌≤◌, [], sym, refl, ap, arith}
 use Rattle.std.proofs.lemmas.Bool.{leb-true}
 use Rattle.framing.proofs.Rendered.{all_yes}
 use Rattle.flow.specs.Asking.{opening_questions}
@@ -11,7 +11,7 @@ pub returns : goal.returns
 returns g c =
     let old = c.args.self.now in
     let n = c.args.n in
-    let asked = c.in-ok-check-opening.ensures in
+    let asked = c.in_ok-check_opening.ensures in
     let yes_all = all_yes (opening_questions n (state_of old.writer) (g.C.Channel.space old.channel)) (sym asked) in
     let room : n + 1 ≤ g.C.Channel.space old.channel = leb-true _ _ yes_all.1.1.0 in
     let begun = c.begin.ensures in

@@ -1,4 +1,4 @@
-use Rattle.std.proofs.Common.{ℕ, List, length, take, ap, ◌∙◌}
+use Rattle.std.proofs.Common.{ℕ, List, length, ap, ◌∙◌}
 use Rattle.std.proofs.lemmas.List.{take_at}
 use Rattle.flow.specs.Writing.{state_of}
 use Rattle.flow.proofs.writer.Writer.carry_over.Goals as goal
@@ -13,4 +13,4 @@ returns c =
       begun = (state_of c.args.self.now).begun;
       over = o;
     })
-    (take_at _ _ _ (ap length c.copy-from-slice.ensures.after) ∙ c.copy-from-slice.ensures.after)
+    (take_at _ _ _ (ap length c.copy_from_slice.ensures.after) ∙ c.copy_from_slice.ensures.after)

@@ -7,8 +7,8 @@ use Rattle.script.specs.Steps.{ReadInto, ReadsOn}
 use Rattle.script.proofs.Drained.{tells_one, drains_more}
 use Rattle.script.proofs.session.Session.drain.Goals as goal
 
-pub returns-in-default : goal.returns-in-default
-returns-in-default g c =
+pub returns-in_default : goal.returns-in_default
+returns-in_default g c =
     let items = sym c.ready.ensures.items in (
       record {
         answers = c.ready.new.answers;
@@ -25,14 +25,14 @@ returns-in-default g c =
 pub returns-then-last : goal.returns-then-last
 returns-then-last g c =
     let before = vec_items c.loop-buffer.answers in
-    let items : vec_items c.push-reserved.new.self ≡ before ++ c.read-next.result.1 ∷ [] =
-    c.push-reserved.ensures.items ∙ ap (λ (l : List Answered). l ++ c.read-next.result.1 ∷ []) c.ready.ensures.items in (
+    let items : vec_items c.push_reserved.new.self ≡ before ++ c.read-next.result.1 ∷ [] =
+    c.push_reserved.ensures.items ∙ ap (λ (l : List Answered). l ++ c.read-next.result.1 ∷ []) c.ready.ensures.items in (
       record {
-        answers = c.push-reserved.new.self;
+        answers = c.push_reserved.new.self;
         reply_is = refl;
         reads =
             drains_more g.C.Channel.slots g.C.Channel.space g.C.Channel.made g.C.Channel.tied g.K.Checksum.width g.K.Checksum.value g.S.Service.verdict
-            before (vec_items c.push-reserved.new.self) c.read-next.result.1 (vec_items c.in-Ok.buffer) c.args.self c.loop-buffer.session c.read-next.result.0
+            before (vec_items c.push_reserved.new.self) c.read-next.result.1 (vec_items c.in-Ok.buffer) c.args.self c.loop-buffer.session c.read-next.result.0
             items c.in-Ok.ensures.made.0 c.loop-buffer.invariant.0 c.read-next.ensures;
       },
       record {
@@ -40,7 +40,7 @@ returns-then-last g c =
         last = c.read-next.result.1;
         whole = items;
         not_before = c.loop-buffer.invariant.1;
-        then = c.is-nothing-last.ensures.0 c.if-last.true;
+        then = c.is_nothing-last.ensures.0 c.if-last.true;
       },
     )
 
@@ -52,16 +52,16 @@ loop-buffer-smaller g c =
     (λ b.
     ReadInto g.C.Channel.slots g.C.Channel.space g.C.Channel.made g.C.Channel.tied g.K.Checksum.width g.K.Checksum.value g.S.Service.verdict b c.read-next.result.1 c.loop-buffer.session c.read-next.result.0)
     c.in-Ok.ensures.made.0 c.read-next.ensures)
-    (c.is-nothing-last.ensures.1 c.if-last.false)
+    (c.is_nothing-last.ensures.1 c.if-last.false)
 
 pub loop-buffer-preserved : goal.loop-buffer-preserved
 loop-buffer-preserved g c =
     let before = vec_items c.loop-buffer.answers in
-    let items : vec_items c.push-reserved.new.self ≡ before ++ c.read-next.result.1 ∷ [] =
-    c.push-reserved.ensures.items ∙ ap (λ (l : List Answered). l ++ c.read-next.result.1 ∷ []) c.ready.ensures.items in (
+    let items : vec_items c.push_reserved.new.self ≡ before ++ c.read-next.result.1 ∷ [] =
+    c.push_reserved.ensures.items ∙ ap (λ (l : List Answered). l ++ c.read-next.result.1 ∷ []) c.ready.ensures.items in (
       drains_more g.C.Channel.slots g.C.Channel.space g.C.Channel.made g.C.Channel.tied g.K.Checksum.width g.K.Checksum.value g.S.Service.verdict
-          before (vec_items c.push-reserved.new.self) c.read-next.result.1 (vec_items c.in-Ok.buffer) c.args.self c.loop-buffer.session c.read-next.result.0
+          before (vec_items c.push_reserved.new.self) c.read-next.result.1 (vec_items c.in-Ok.buffer) c.args.self c.loop-buffer.session c.read-next.result.0
           items c.in-Ok.ensures.made.0 c.loop-buffer.invariant.0 c.read-next.ensures,
       subst (λ (l : List Answered). All NotNothing l) (sym items)
-          (All-push NotNothing before c.read-next.result.1 c.loop-buffer.invariant.1 (c.is-nothing-last.ensures.1 c.if-last.false)),
+          (All-push NotNothing before c.read-next.result.1 c.loop-buffer.invariant.1 (c.is_nothing-last.ensures.1 c.if-last.false)),
     )

@@ -7,9 +7,9 @@ pub returns : goal.returns
 returns g c =
     let after = c.reading-answer.new.buffer in
     let buffer = c.args.buffer in
-    let was = c.as-mut-slice.ensures.value in
+    let was = c.as_mut_slice.ensures.value in
     let size : length after ≡ buffer.len =
-    let kept = c.reading-answer.auto.buffer in let long = c.as-mut-slice.ensures.len in omega arith in
+    let kept = c.reading-answer.auto.buffer in let long = c.as_mut_slice.ensures.len in omega arith in
     record {
       after = after;
       exact =
@@ -19,9 +19,9 @@ returns g c =
           g.S.Service.verdict b after c.reading-answer.result c.args.self.flow c.reading-answer.new.self)
           was c.reading-answer.ensures.answer;
       packet_is =
-          c.shrink-to-fit.ensures.items
+          c.shrink_to_fit.ensures.items
           ∙ c.truncate.ensures.items
-          ∙ ap₂ (λ (n : ℕ) (b : List ℕ). take n b) c.packet-len.ensures
+          ∙ ap₂ (λ (n : ℕ) (b : List ℕ). take n b) c.packet_len.ensures
           (take_at after (drop (length after) buffer.items) buffer.len size);
       hand_stays = refl;
     }

@@ -14,9 +14,9 @@ returns-in-Offer g c =
           (subst
           (λ (p : List ℕ).
           OffersFrom g.C.Channel.slots g.C.Channel.space g.C.Channel.made g.C.Channel.tied g.K.Checksum.width g.K.Checksum.value g.S.Service.verdict c.args.self.hand p c.offer-session.result.1 c.args.self c.offer-session.result.0)
-          c.as-slice.ensures.value done),
+          c.as_slice.ensures.value done),
       offers_whole g.C.Channel.slots g.C.Channel.space g.C.Channel.made g.C.Channel.tied g.K.Checksum.width g.K.Checksum.value g.S.Service.verdict
-          c.args.self.hand c.as-slice.result.now c.offer-session.result.1 c.args.self c.offer-session.result.0 done,
+          c.args.self.hand c.as_slice.result.now c.offer-session.result.1 c.args.self c.offer-session.result.0 done,
     )
 
 pub returns-in-Close : goal.returns-in-Close
@@ -31,7 +31,7 @@ returns-in-Close g c =
 pub returns-in-Ok : goal.returns-in-Ok
 returns-in-Ok g c = (
   does g.C.Channel.slots g.C.Channel.space g.C.Channel.made g.C.Channel.tied g.K.Checksum.width g.K.Checksum.value g.S.Service.verdict
-      c.args.step.now (steps.Read c.in-Read.buffer-len) (Read c.read-session.result.1) c.args.self c.read-session.result.0 c.in-Read.is
+      c.args.step.now (steps.Read c.in-Read.buffer_len) (Read c.read-session.result.1) c.args.self c.read-session.result.0 c.in-Read.is
       (record {
         answered = c.read-session.result.1;
         reply_is = refl;
