@@ -1,16 +1,15 @@
 -- Laws of counting what a reel holds.
-use Rattle.std.proofs.Common.{◌≡◌, ℕ, suc, ◌+◌, ◌-◌, ◌*◌, ◌/◌, ◌<◌, ◌≤◌, Bool, true, false, List, [], ◌∷◌, length, take, drop, Some, None, Ok, Err, sym, refl, ap, ◌∙◌, arith}
-use Rattle.std.proofs.lemmas.List.{length-drop, length-take}
+use Rattle.std.proofs.Common.{◌≡◌, ℕ, ◌+◌, ◌*◌, ◌/◌, ◌≤◌, Bool, true, false, List, [], ◌∷◌, length, drop, Some, None, Ok, sym, refl, ap, ◌∙◌, arith}
+use Rattle.std.proofs.lemmas.List.{length-drop}
 use Rattle.reel.specs.declared.block.Block.{Block}
 use Rattle.reel.specs.declared.blocks.Blocks.{Blocks}
 use Rattle.reel.specs.declared.counting.Contents.{Contents}
 use Rattle.reel.specs.Bits.{bits, count_of_set_bits}
-use Rattle.reel.specs.Block.{Superframe, size, map_part, frames_size, frames_part, block_size, dealt, superframe, refusal}
+use Rattle.reel.specs.Block.{Superframe, size, map_part, frames_size, frames_part, block_size, dealt, refusal}
 use Rattle.reel.specs.Counting.{frame_count, gap_count, total, one_more}
 use Rattle.reel.specs.Parts.{held, Parts}
 use Rattle.reel.specs.Reel.{Reading, reading}
 use Rattle.reel.specs.Walking.{ahead, to_read, Next, Reads}
-use Rattle.reel.proofs.Bits.{length_bits, set_bits_at_most}
 use Rattle.reel.proofs.Dealing.{length_dealt}
 use Rattle.reel.proofs.Questions.{lawful, within}
 use Rattle.reel.proofs.Walks.{held_is}

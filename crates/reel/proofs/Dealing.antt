@@ -1,11 +1,11 @@
 -- Laws of dealing a block's frames out to its bits.
-use Rattle.std.proofs.Common.{◌≡◌, ℕ, zero, suc, ◌+◌, ◌-◌, ◌*◌, ◌/◌, ◌%◌, ◌^◌, ◌<◌, ◌≤◌, min, Bool, true, false, cond, ◌⊎◌, List, [], ◌∷◌, ◌++◌, map, length, get_or, take, drop, is_some, Some, None, Option, sym, refl, ap, ◌∙◌, ap₂, inl, inr, ⊎_elim, arith, take-add}
+use Rattle.std.proofs.Common.{◌≡◌, ℕ, suc, ◌+◌, ◌*◌, ◌/◌, ◌<◌, ◌≤◌, min, Bool, true, false, List, [], ◌∷◌, ◌++◌, map, length, take, drop, is_some, Some, None, sym, refl, ap, ◌∙◌, ap₂, ⊎_elim, arith, take-add}
 use Rattle.std.proofs.ByRecursion.{All-append, All-drop, All-take}
 use Rattle.std.proofs.lemmas.List.{drop_all, drop_at, length-append, length-drop, length-take-le, take_all, take_at}
 use Rattle.std.proofs.lemmas.Bool.{cases_lt}
 use Rattle.reel.specs.Bits.{bits, bit_at, count_of_set_bits}
 use Rattle.reel.specs.Block.{Superframe, Bytes, Frames, frame_bytes, dealt}
-use Rattle.reel.proofs.Bits.{next_bit, no_bit}
+use Rattle.reel.proofs.Bits.{next_bit}
 
 -- a part of a list that is cut at its end
 pub take_most : (n : ℕ) (xs : List ℕ) → take (min (length xs) n) xs ≡ take n xs

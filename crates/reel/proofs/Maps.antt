@@ -1,11 +1,10 @@
 -- Writing a bit map and reading it undo each other.
-use Rattle.std.proofs.Common.{◌≡◌, ℕ, zero, suc, ◌+◌, ◌-◌, ◌*◌, ◌/◌, ◌%◌, ◌^◌, ◌<◌, ◌≤◌, Bool, true, false, cond, not, ◌&&◌, eqb, ◌⊎◌, List, [], ◌∷◌, ◌++◌, length, take, drop, replicate, sym, refl, ap, ◌∙◌, ap₂, inl, inr, ⊎_elim, append_assoc, pow-suc, arith}
+use Rattle.std.proofs.Common.{◌≡◌, ℕ, zero, suc, ◌+◌, ◌-◌, ◌*◌, ◌/◌, ◌%◌, ◌^◌, ◌<◌, ◌≤◌, Bool, true, false, eqb, List, [], ◌∷◌, ◌++◌, length, take, drop, replicate, sym, refl, ap, ◌∙◌, ap₂, ⊎_elim, append_assoc, pow-suc, arith}
 use native.Mathlib.Nat.{sub-zero}
-use Rattle.std.specs.List.{AllByRecursion as All}
 use Rattle.std.proofs.lemmas.Nat.{pow_pos}
-use Rattle.std.proofs.lemmas.List.{append-nil, append_cancel_left, length-append, length-take, length-drop, drop_all, drop_at, length-replicate, nil_from_length, replicate-append-replicate, take_all, take-append-drop, take_at}
-use Rattle.std.proofs.lemmas.Bool.{and_parts, cases_lt, eq-eqb, ne_eqb}
-use Rattle.reel.specs.Bits.{bits_of, value_of, bits, map_of, size_of_map, count_of_set_bits, all_clear}
+use Rattle.std.proofs.lemmas.List.{append-nil, length-take, length-drop, drop_all, drop_at, replicate-append-replicate, take_all, take-append-drop, take_at}
+use Rattle.std.proofs.lemmas.Bool.{cases_lt, eq-eqb, ne_eqb}
+use Rattle.reel.specs.Bits.{bits_of, value_of, bits, map_of, all_clear}
 use Rattle.reel.specs.Block.{Bytes}
 use Rattle.reel.proofs.Bits.{digit, length_bits_of, length_bits}
 

@@ -1,5 +1,5 @@
 -- Laws of a reel as a channel.
-use Rattle.std.proofs.Common.{◌≡◌, ℕ, ◌+◌, Bool, true, false, cond, eqb, List, [], ◌∷◌, ◌++◌, map, length, is_ok, Some, None, Ok, Err, Option, Result, sym, refl, ap, ◌∙◌, ap₂, arith}
+use Rattle.std.proofs.Common.{◌≡◌, ℕ, ◌+◌, Bool, true, false, cond, eqb, List, [], ◌∷◌, ◌++◌, map, length, is_ok, Some, None, Ok, Err, Result, sym, refl, ap, ◌∙◌, ap₂, arith}
 use Rattle.framing.specs.declared.slot.Slot.{Slot}
 use Rattle.framing.specs.declared.slot.Slot.TheVariants.{Gap, Mark}
 use Rattle.std.specs.Option.{option_map}
@@ -9,7 +9,7 @@ use Rattle.std.proofs.lemmas.Bool.{cond-true, cond-false, eq-eqb, ne_eqb, true�
 use Rattle.channel.specs.Asking.{waiting}
 use Rattle.reel.specs.declared.block.Block.{Block}
 use Rattle.reel.specs.declared.blocks.Blocks.{Blocks}
-use Rattle.reel.specs.declared.channel.ReelChannel.{ReelChannel}
+use Rattle.reel.specs.declared.playing.ReelChannel.{ReelChannel}
 use Rattle.reel.specs.declared.fault.ReelFault.{ReelFault}
 use Rattle.reel.specs.Block.{Superframe, Bytes, Frames, Fits}
 use Rattle.reel.specs.Playing.{slot_of, part_of, reel_slots, part_slots, waiting_slots, stops_at, stops_here}

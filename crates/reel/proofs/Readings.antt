@@ -1,7 +1,7 @@
 -- Laws of reading a reel block by block.
-use Rattle.std.proofs.Common.{◌≡◌, ℕ, zero, suc, ◌+◌, ◌-◌, ◌*◌, ◌<◌, ◌≤◌, List, [], ◌∷◌, ◌++◌, length, take, drop, Some, None, Option, sym, refl, ap, ◌∙◌, ap₂, arith}
+use Rattle.std.proofs.Common.{◌≡◌, ℕ, zero, suc, ◌+◌, ◌-◌, ◌<◌, ◌≤◌, List, [], ◌∷◌, length, drop, Some, None, Option, sym, refl, ap, ◌∙◌, ap₂, arith}
 use Rattle.reel.specs.Block.{block_size, superframe, refusal}
-use Rattle.reel.specs.Reel.{Reading, ended, stopped, before, onward, reading_from}
+use Rattle.reel.specs.Reel.{ended, stopped, before, onward, reading_from}
 use Rattle.reel.proofs.Questions.{lawful, within}
 
 pub reading_none : (place : ℕ) (bytes : List ℕ) → length bytes ≡ 0 → reading_from 0 place bytes ≡ ended

@@ -1,5 +1,5 @@
 -- A reel is the row of its blocks, and can be read in one way only.
-use Rattle.std.proofs.Common.{◌≡◌, ℕ, zero, suc, ◌+◌, ◌-◌, ◌*◌, ◌<◌, ◌≤◌, ◌⊎◌, List, [], ◌∷◌, ◌++◌, length, get_or, take, drop, Some, None, Ok, Err, Option, Result, sym, refl, ap, ◌∙◌, subst, ap₂, inl, inr, ⊎_elim, append_assoc, arith, w8, Fits as Byte}
+use Rattle.std.proofs.Common.{◌≡◌, ℕ, zero, suc, ◌+◌, ◌-◌, ◌<◌, ◌≤◌, ◌⊎◌, List, [], ◌∷◌, ◌++◌, length, get_or, drop, Some, None, Ok, Err, Option, Result, sym, refl, ap, ◌∙◌, subst, ap₂, inl, inr, ⊎_elim, append_assoc, arith, w8, Fits as Byte}
 use Rattle.std.specs.List.{AllByRecursion as All}
 use Rattle.std.proofs.ByRecursion.{All-drop, All-from_get_or}
 use Rattle.std.proofs.lemmas.List.{append-nil, drop_at, length-append, length-drop, nil_from_length}
@@ -9,10 +9,10 @@ use Rattle.reel.specs.Block.{Superframe, Bytes, Fits, block_of, block_size, supe
 use Rattle.reel.specs.Checking.{told, Means}
 use Rattle.reel.specs.Laws.{behind}
 use Rattle.reel.specs.Parts.{number}
-use Rattle.reel.specs.Reel.{Reading, ended, stopped, before, reading_from, reading, reel_of}
+use Rattle.reel.specs.Reel.{Reading, before, reading_from, reading, reel_of}
 use Rattle.reel.proofs.Questions.{lawful, within}
 use Rattle.reel.proofs.Readings.{reading_none, reading_block, reading_stops}
-use Rattle.reel.proofs.Writing.{read_fits, read_written, written_bytes, written_lawful, written_read, written_size}
+use Rattle.reel.proofs.Writing.{read_fits, read_written, written_lawful, written_read, written_size}
 
 -- what is written is read as it was written, and then what follows is read
 pub written_reading : (place : ℕ) (ss : List Superframe) (rest : List ℕ) → All Fits ss

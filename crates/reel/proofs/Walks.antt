@@ -1,14 +1,14 @@
 -- Walking over the blocks of a reel is reading it.
-use Rattle.std.proofs.Common.{◌≡◌, ℕ, ◌+◌, List, [], ◌∷◌, ◌++◌, length, take, drop, Some, None, Ok, Err, Option, Result, sym, refl, ap, ◌∙◌, ap₂, arith}
+use Rattle.std.proofs.Common.{◌≡◌, ℕ, ◌+◌, List, ◌++◌, length, take, drop, Some, None, Ok, Err, sym, ap, ◌∙◌, ap₂, arith}
 use Rattle.std.proofs.lemmas.List.{drop-drop}
 use Rattle.reel.specs.declared.block.Block.{Block}
 use Rattle.reel.specs.declared.blocks.Blocks.{Blocks}
 use Rattle.reel.specs.declared.fault.ReelFault.{ReelFault}
 use Rattle.reel.specs.Bits.{bits}
-use Rattle.reel.specs.Block.{Superframe, block_of, size, map_part, dealt, block_size, superframe, refusal}
+use Rattle.reel.specs.Block.{Superframe, block_of, size, map_part, dealt, block_size, superframe}
 use Rattle.reel.specs.Parts.{number, held, Parts, Written}
 use Rattle.reel.specs.Reel.{before, stopped, reading_from}
-use Rattle.reel.specs.Walking.{ahead, to_read, Next, Reads}
+use Rattle.reel.specs.Walking.{ahead, Next, Reads}
 use Rattle.reel.proofs.Readings.{reading_none, reading_block, reading_stops}
 
 -- what a lawful block holds, by its parts

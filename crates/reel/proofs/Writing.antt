@@ -1,10 +1,9 @@
 -- Writing a block and reading it undo each other.
-use Rattle.std.proofs.Common.{◌≡◌, ℕ, zero, suc, ◌+◌, ◌-◌, ◌*◌, ◌<◌, ◌≤◌, Bool, true, false, List, [], ◌∷◌, ◌++◌, map, length, get_or, take, drop, replicate, is_some, None, sym, refl, ap, ◌∙◌, ap₂, append_assoc, arith}
-use Rattle.std.specs.List.{AllByRecursion as All}
+use Rattle.std.proofs.Common.{◌≡◌, ℕ, zero, suc, ◌+◌, ◌-◌, ◌*◌, ◌<◌, ◌≤◌, Bool, true, false, List, [], ◌∷◌, ◌++◌, map, length, take, drop, replicate, is_some, None, sym, refl, ap, ◌∙◌, ap₂, append_assoc, arith}
 use Rattle.std.proofs.ByRecursion.{All-append, All-drop, All-take}
-use Rattle.std.proofs.lemmas.List.{drop_at, drop-drop, drop_more, length-append, length-drop, length-map, length-replicate, length-take, take_all, take-append-drop, take_at}
+use Rattle.std.proofs.lemmas.List.{drop_at, drop-drop, drop_more, length-append, length-map, length-take, take_all, take-append-drop, take_at}
 use Rattle.reel.specs.Bits.{bits, map_of, size_of_map, count_of_set_bits, all_clear}
-use Rattle.reel.specs.Block.{Superframe, Bytes, Frames, Fits, frame_bytes, block_of, size, map_part, frames_size, behind_map, frames_part, block_size, dealt, superframe, refusal}
+use Rattle.reel.specs.Block.{Superframe, Bytes, Fits, frame_bytes, block_of, size, map_part, frames_size, behind_map, frames_part, block_size, dealt, superframe, refusal}
 use Rattle.reel.proofs.Bits.{length_bits, set_bits_append}
 use Rattle.reel.proofs.Dealing.{bytes_dealt, bytes_frames, dealt_frames, frames_dealt, length_dealt, length_frames, marks_dealt}
 use Rattle.reel.proofs.Maps.{bits_map_of, bytes_map_of, length_map_of, map_of_bits}

@@ -1,10 +1,10 @@
 -- A reel as a channel.
-use Rattle.std.specs.Prelude.{◌≡◌, ℕ, ◌+◌, Bool, true, false, cond, List, [], ◌∷◌, ◌++◌, map, length, Some, None, MatchBool, Option, ◌==◌}
+use Rattle.std.specs.Prelude.{◌≡◌, ℕ, ◌+◌, Bool, cond, List, [], ◌∷◌, ◌++◌, map, length, Some, None, MatchBool, Option, ◌==◌}
 use Rattle.std.specs.Option.{option_map}
 use Rattle.std.specs.List.{flat_map}
 use Rattle.framing.specs.declared.slot.Slot.{Slot}
 use Rattle.framing.specs.declared.slot.Slot.TheVariants.{Gap, Mark}
-use Rattle.reel.specs.declared.channel.ReelChannel.{ReelChannel}
+use Rattle.reel.specs.declared.playing.ReelChannel.{ReelChannel}
 use Rattle.reel.specs.declared.slots.Recorded.{Recorded}
 use Rattle.reel.specs.Block.{Superframe, refusal}
 use Rattle.reel.specs.Recording.{to_come}

@@ -1,5 +1,5 @@
 -- Walking over the frames and gaps of a block.
-use Rattle.std.specs.Prelude.{◌≡◌, List, [], ◌∷◌, take, drop, Some, None, Option}
+use Rattle.std.specs.Prelude.{◌≡◌, [], ◌∷◌, take, drop, Some, None, Option}
 use Rattle.reel.specs.declared.slots.Recorded.{Recorded}
 use Rattle.reel.specs.declared.slots.Recorded.TheVariants.{Frame, Gap}
 use Rattle.reel.specs.declared.slots.Slots.{Slots}

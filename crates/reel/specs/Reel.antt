@@ -1,6 +1,6 @@
 -- A reel: a row of blocks, one for each superframe.
-use Rattle.std.specs.Prelude.{◌≡◌, ℕ, zero, suc, ◌+◌, ◌-◌, ◌*◌, ◌<◌, ◌≤◌, Bool, true, false, List, [], ◌∷◌, ◌++◌, length, take, drop, Some, None, Option}
-use Rattle.std.specs.List.{flat_map, AllByRecursion as All}
+use Rattle.std.specs.Prelude.{ℕ, zero, suc, ◌+◌, ◌-◌, List, [], ◌∷◌, Some, None, Option}
+use Rattle.std.specs.List.{flat_map}
 use Rattle.reel.specs.Block.{Superframe, block_of, block_size, superframe, refusal}
 
 -- writing: the blocks, one after the other

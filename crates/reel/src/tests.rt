@@ -1,8 +1,8 @@
 use crate::blocks::Blocks;
-use crate::channel::ReelChannel;
 use crate::checking;
 use crate::counting::{Contents, count};
 use crate::fault::{BlockFault, ReelFault};
+use crate::playing::ReelChannel;
 use crate::slots::Recorded;
 use channel::channel::Channel;
 use channel::fade::Fade;

@@ -12,7 +12,7 @@ with-contents-requires c =
     let one = one_block (ahead s) (s.passed + 1) c.in-Ok.block step.1 step.2 in
     let so = c.loop-found.invariant in
     let fits = still_fits c.args.reel.now s c.loop-found.contents c.in-Ok.block so step.1 one in
-    (omega (arith, so), (omega (arith, so, one, fits), (omega (arith, one, c.from.ensures), omega (arith, so, c.from.type-inv))))
+    (omega (arith, so), (omega (arith, so, one, fits), (omega (arith, one, c.from.ensures), omega (arith, so, c.from.type_inv))))
 
 pub loop-found-preserved : goal.loop-found-preserved
 loop-found-preserved c =

@@ -1,5 +1,5 @@
-use Rattle.std.proofs.Common.{◌≡◌, ℕ, ◌+◌, ◌-◌, ◌<◌, ◌≤◌, List, [], length, take, drop, Some, None, Ok, Err, sym, refl, ap, ◌∙◌, subst, subst₂, arith, rules}
-use Rattle.std.proofs.lemmas.List.{drop_all, take_rest, length-take, length-drop}
+use Rattle.std.proofs.Common.{◌≡◌, ℕ, ◌+◌, ◌<◌, List, length, drop, Some, None, Ok, Err, refl, ap, ◌∙◌, subst, subst₂, arith, rules}
+use Rattle.std.proofs.lemmas.List.{drop_all, take_rest, length-drop}
 use Rattle.reel.specs.declared.fault.ReelFault.{ReelFault}
 use Rattle.reel.specs.Bits.{size_of_map}
 use Rattle.reel.specs.Block.{size, frames_size, block_size}
@@ -26,8 +26,8 @@ returns-in-Ok c =
     let parts = within rest (lawful rest read.0) in
     let map_long : length b.map.now ≡ size_of_map (size rest) = ap length read.1.map ∙ parts.map in
     let frames_long : length b.frames.now ≡ frames_size rest = ap length read.1.frames ∙ parts.frames in
-    let far : s.passed + c.bytes-taken.result ≡ s.passed + block_size rest = omega (arith, c.bytes-taken.ensures) in
-    let t = moved s (s.passed + c.bytes-taken.result) in
+    let far : s.passed + c.bytes_taken.result ≡ s.passed + block_size rest = omega (arith, c.bytes_taken.ensures) in
+    let t = moved s (s.passed + c.bytes_taken.result) in
     let step : Next s (Some (Ok b)) t = (some, read.0, read.1, ap (moved s) far) in
     record { steps = (step, block_reads s b t step read.2); goes = firm ((tt, tt, simp length-drop (omega arith))) (λ h. search rules) }
 

@@ -1,4 +1,4 @@
-use Rattle.std.proofs.Common.{◌≡◌, ℕ, ◌+◌, ◌-◌, ◌/◌, ◌<◌, ◌≤◌, Bool, true, false, ◌⊎◌, List, [], ◌∷◌, length, take, drop, Some, sym, refl, ap, ◌∙◌, ap₂, inl, inr, ⊎_elim, arith, rules}
+use Rattle.std.proofs.Common.{◌≡◌, ℕ, ◌+◌, ◌/◌, ◌≤◌, Bool, true, false, ◌⊎◌, List, ◌∷◌, length, take, drop, Some, sym, refl, ap, ◌∙◌, ap₂, inl, inr, arith, rules}
 use Rattle.reel.specs.Bits.{bits, bit_at}
 use Rattle.reel.specs.Block.{Superframe, dealt}
 use Rattle.reel.proofs.Bits.{no_bit}
@@ -28,8 +28,8 @@ returns c =
     let s = c.args.self.now in
     let set : bit_at s.map.now s.passed ≡ true =
     ap (bit_at s.map.now) (sym c.from-i.ensures) ∙ sym c.if-not-bit.ensures in
-    let front = c.split-at.ensures.front ∙ ap (λ (n : ℕ). take n s.frames.now) c.min.ensures ∙ take_most 122 s.frames.now in
-    let back = c.split-at.ensures.back ∙ ap (λ (n : ℕ). drop n s.frames.now) c.min.ensures ∙ drop_most 122 s.frames.now in
+    let front = c.split_at.ensures.front ∙ ap (λ (n : ℕ). take n s.frames.now) c.min.ensures ∙ take_most 122 s.frames.now in
+    let back = c.split_at.ensures.back ∙ ap (λ (n : ℕ). drop n s.frames.now) c.min.ensures ∙ drop_most 122 s.frames.now in
     let steps =
     deals_frame s.map.now s.size s.passed s.frames.now (omega arith) (simp c.from-i.ensures at c.if-i-self.false) set
     ∙ ap₂ (λ (f r : List ℕ). Some f ∷ dealt (drop (s.passed + 1) (take s.size (bits s.map.now))) r) (sym front) (sym back) in

@@ -2,7 +2,7 @@ use Rattle.std.proofs.Common.{ap, ◌∙◌}
 use Rattle.std.specs.Option.{option_map}
 use Rattle.reel.specs.Parts.{told_as}
 use Rattle.reel.proofs.Plays.{found_stops, found_stops_all}
-use Rattle.reel.proofs.channel.ReelChannel.stop.Goals as goal
+use Rattle.reel.proofs.playing.ReelChannel.stop.Goals as goal
 
 pub returns-in-Some : goal.returns-in-Some
 returns-in-Some c =

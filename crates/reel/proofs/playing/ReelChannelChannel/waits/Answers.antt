@@ -3,7 +3,7 @@ use Rattle.reel.specs.Playing.{part_slots}
 use Rattle.reel.specs.Recording.{to_come}
 use Rattle.reel.specs.Walking.{to_read}
 use Rattle.reel.proofs.Plays.{one_waits}
-use Rattle.reel.proofs.channel.ReelChannelChannel.waits.Goals as goal
+use Rattle.reel.proofs.playing.ReelChannelChannel.waits.Goals as goal
 
 pub returns-then-self : goal.returns-then-self
 returns-then-self c =
