@@ -1,4 +1,6 @@
 //! Reading at its edges, apart from its crate so that its proofs are not done twice.
+#![tactic(auto)]
+
 #[cfg(test)]
 mod buffers;
 #[cfg(test)]
