@@ -1,21 +1,21 @@
 -- Readings one after another, and why they come to an end.
-use Rattle.std.proofs.Common.{◌≡◌, ℕ, ◌+◌, ◌<◌, Bool, cond, List, [], ◌∷◌, ◌++◌, length, replicate, Some, None, Ok, Err, Option, Result, sym, refl, ap, ◌∙◌, subst, ap₂, arith}
+use Rattle.std.proofs.Common.{◌≡◌, ℕ, ◌<◌, Bool, List, [], ◌∷◌, ◌++◌, length, replicate, Some, None, Ok, Err, Option, Result, sym, refl, ap, ◌∙◌, subst, ap₂, arith}
 use Rattle.std.proofs.lemmas.List.{length-replicate}
 use Rattle.framing.specs.declared.slot.Slot.{Slot}
-use Rattle.receiver.specs.Answering.{Answer, answer_to, nothing}
-use Rattle.receiver.specs.Reading.{Reader, Told, listed, owed, reading}
+use Rattle.receiver.specs.Answering.{answer_to, nothing}
+use Rattle.receiver.specs.Reading.{Reader, Told, listed, owed}
 use Rattle.receiver.specs.Readings.{said, buffer_question}
 use Rattle.receiver.specs.Views.{view}
 use Rattle.receiver.specs.declared.answer.Reading.{Reading}
 use Rattle.receiver.specs.declared.answer.Reading.TheVariants.{Sound, Damaged, Foreign, Short, Lost, Torn, Mark, Nothing}
 use Rattle.receiver.specs.declared.answer.BufferTooShort.{BufferTooShort}
 use Rattle.receiver.proofs.Folds.{takes_first}
-use Rattle.flow.specs.Calls.{ReadingAnswer, outcome, due}
+use Rattle.flow.specs.Calls.{ReadingAnswer, outcome}
 use Rattle.flow.specs.declared.flow.Flow.{Flow}
 use Rattle.script.specs.declared.reply.Answered.{Answered}
 use Rattle.script.specs.declared.session.Session.{Session}
-use Rattle.script.specs.Answers.{IsNothing, NotNothing}
-use Rattle.script.specs.Steps.{Same, ReadInto, ReadsOn}
+use Rattle.script.specs.Answers.{NotNothing}
+use Rattle.script.specs.Steps.{ReadInto, ReadsOn}
 
 -- what says nothing is the answer nothing
 nothing_said : (a : Reading) (buffer : List ℕ) → said a buffer ≡ nothing → a ≡ Nothing

@@ -28,7 +28,7 @@ use Rattle.script.specs.declared.step.Step.TheVariants.{Open, Offer, Close, Drai
 use Rattle.script.specs.Answers.{opening_answer, offer_answer, handed_out}
 use Rattle.script.specs.Events.{Makes, answer_told, told, EventsOf, Tells, ByTheRules, by_opening, by_offer, by_closing, by_reading, Goes}
 use Rattle.script.specs.Scripts.{Follows}
-use Rattle.script.specs.Steps.{HasNoToken, OffersFrom, ClosesFrom, ReadInto, ReadsOn, Does}
+use Rattle.script.specs.Steps.{OffersFrom, ClosesFrom, ReadInto, ReadsOn, Does}
 
 -- 1. Replies, in the words of histories.
 

@@ -1,8 +1,8 @@
 -- What events one after another sent and took, and that the run law holds of each first part of them.
-use Rattle.std.proofs.Common.{◌≡◌, ℕ, Bool, List, [], ◌∷◌, ◌++◌, map, length, Option, sym, refl, ap, ◌∙◌, subst, ap₂, arith}
+use Rattle.std.proofs.Common.{◌≡◌, ℕ, Bool, List, [], ◌∷◌, ◌++◌, map, length, Option, sym, ap, ◌∙◌, subst, arith}
 use Rattle.std.proofs.lemmas.List.{append-nil, append_assoc, map-append}
 use Rattle.framing.specs.declared.slot.Slot.{Slot}
-use Rattle.channel.specs.Sending.{Sent, became, AllMade}
+use Rattle.channel.specs.Sending.{became, AllMade}
 use Rattle.checksum.specs.Detection.{Detects}
 use Rattle.runlaw.specs.History.{Event, History, all_sent, all_taken}
 use Rattle.runlaw.specs.Law.{RunLaw}

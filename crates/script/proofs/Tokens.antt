@@ -1,15 +1,14 @@
 -- Offers and closings, by what is in hand.
-use Rattle.std.proofs.Common.{◌≡◌, ℕ, List, Ok, Err, Option, Result, sym, refl, ◌∙◌, subst}
+use Rattle.std.proofs.Common.{◌≡◌, ℕ, List, Ok, Err, Option, Result, sym, ◌∙◌, subst}
 use Rattle.framing.specs.declared.slot.Slot.{Slot}
 use Rattle.flow.specs.declared.faults.OfferFault.{OfferFault}
-use Rattle.flow.specs.declared.token.SuperframeToken.{SuperframeToken}
 use Rattle.script.specs.declared.hand.Hand.{Hand}
 use Rattle.script.specs.declared.hand.Hand.TheVariants.{Empty, Holds}
 use Rattle.script.specs.declared.reply.Reply.{Reply}
 use Rattle.script.specs.declared.step.Step.{Step}
 use Rattle.script.specs.declared.session.Session.{Session}
 use Rattle.script.specs.Answers.{offer_answer, Whole}
-use Rattle.script.specs.Steps.{HasNoToken, Offers, Closes, OffersFrom, ClosesFrom, Does, Ended}
+use Rattle.script.specs.Steps.{OffersFrom, ClosesFrom, Does, Ended}
 
 offered_whole : (answer : Result (Unit {0}) OfferFault) → Whole (offer_answer answer)
 offered_whole (Ok x) = tt

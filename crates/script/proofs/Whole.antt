@@ -1,12 +1,12 @@
 -- Scripts, step by step and as a whole.
-use Rattle.std.proofs.Common.{◌≡◌, ℕ, ◌+◌, ◌<◌, Bool, List, [], ◌∷◌, ◌++◌, map, length, get_or, take, vec_items, Option, sym, refl, ap, ◌∙◌, subst, ap₂}
+use Rattle.std.proofs.Common.{◌≡◌, ℕ, ◌+◌, ◌<◌, Bool, List, [], ◌∷◌, ◌++◌, map, length, get_or, take, vec_items, Option, sym, refl, ap, ◌∙◌, subst}
 use Rattle.std.proofs.lemmas.List.{take_more}
 use Rattle.framing.specs.declared.slot.Slot.{Slot}
 use Rattle.checksum.specs.Detection.{Detects}
 use Rattle.channel.specs.Sending.{became}
 use Rattle.runlaw.specs.History.{all_sent}
 use Rattle.flow.specs.declared.flow.Flow.{Flow}
-use Rattle.flow.specs.Calls.{Tied, SetUp, Steady}
+use Rattle.flow.specs.Calls.{SetUp, Steady}
 use Rattle.flow.proofs.Happens.{happened_new}
 use Rattle.script.specs.declared.hand.Hand.{Hand}
 use Rattle.script.specs.declared.hand.Hand.TheVariants.{Empty, Holds}
@@ -19,7 +19,7 @@ use Rattle.script.specs.Scripts.{Follows, Comes, Ran, RanScript}
 use Rattle.script.specs.declared.progress.Progress.{Progress}
 use Rattle.script.specs.declared.running.Outcome.{Outcome}
 use Rattle.script.specs.Steps.{Took, OffersFrom, ClosesFrom, ReadsOn, Does}
-use Rattle.script.proofs.Histories.{HasAll, script_events}
+use Rattle.script.proofs.Histories.{script_events}
 use Rattle.script.proofs.Lawfully.{goes_made, goes_slots, goes_history, goes_law}
 
 -- one step more of the list

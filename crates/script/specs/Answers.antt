@@ -9,7 +9,7 @@ use Rattle.receiver.specs.declared.answer.Reading.TheVariants.{Nothing}
 use Rattle.receiver.specs.declared.answer.BufferTooShort.{BufferTooShort}
 use Rattle.receiver.specs.Readings.{said_length}
 use Rattle.script.specs.declared.hand.Hand.{Hand}
-use Rattle.script.specs.declared.hand.Hand.TheVariants.{Empty, Holds}
+use Rattle.script.specs.declared.hand.Hand.TheVariants.{Holds}
 use Rattle.script.specs.declared.reply.Answered.{Answered}
 use Rattle.script.specs.declared.reply.Reply.{Reply}
 use Rattle.script.specs.declared.reply.Reply.TheVariants.{Opened, NotOpened, Accepted, NotAccepted, Closed, NoToken, Read, Drained, Room, Waits}

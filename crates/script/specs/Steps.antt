@@ -1,7 +1,7 @@
 -- What each step does to a session, and what it answers. `slots` is the list of slots that wait on the flow's channel, `space`
 -- the channel's room, `made` what it may make of a frame, and `tied` what ties it to what lies below it; the checksum has this
 -- width and this value of each packet, and the service this verdict on each.
-use Rattle.std.specs.Prelude.{◌≡◌, ℕ, ◌-◌, List, [], ◌∷◌, ◌++◌, length, take, replicate, Ok, Err, vec_items, Option, Result, Vec}
+use Rattle.std.specs.Prelude.{◌≡◌, ℕ, List, [], ◌∷◌, take, replicate, Ok, vec_items, Option, Result, Vec}
 use Rattle.std.specs.declared.alloc.Global.{Global}
 use Rattle.std.specs.List.{AllByRecursion as All}
 use Rattle.framing.specs.declared.slot.Slot.{Slot}

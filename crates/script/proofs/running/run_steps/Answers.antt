@@ -1,4 +1,4 @@
-use Rattle.std.proofs.Common.{◌≡◌, ℕ, ◌+◌, ◌<◌, List, [], ◌∷◌, ◌++◌, length, take, vec_items, sym, refl, ap, ◌∙◌, subst, inl, inr, arith}
+use Rattle.std.proofs.Common.{◌≡◌, ℕ, ◌+◌, List, [], ◌∷◌, ◌++◌, length, take, vec_items, sym, refl, ap, ◌∙◌, subst, inl, inr, arith}
 use Rattle.std.specs.List.{AllByRecursion as All}
 use Rattle.std.proofs.ByRecursion.{All-push}
 use Rattle.std.proofs.lemmas.List.{length-append}
@@ -6,7 +6,6 @@ use Rattle.script.specs.declared.progress.Progress.TheVariants.{Done, CutShort, 
 use Rattle.script.specs.declared.reply.Reply.{Reply}
 use Rattle.script.specs.declared.reply.Reply.TheVariants.{Drained}
 use Rattle.script.specs.declared.session.Session.{Session}
-use Rattle.script.specs.declared.step.Step.{Step}
 use Rattle.script.specs.Answers.{Whole}
 use Rattle.script.specs.Scripts.{Follows}
 use Rattle.script.proofs.Whole.{follows_on, took, ran_script}

@@ -1,4 +1,4 @@
-use Rattle.std.proofs.Common.{◌≡◌, ℕ, sym, refl, ◌∙◌, arith}
+use Rattle.std.proofs.Common.{◌≡◌, ℕ, refl, arith}
 use Rattle.script.proofs.Tokens.{empties, ended}
 use Rattle.script.proofs.session.Session.end.Goals as goal
 

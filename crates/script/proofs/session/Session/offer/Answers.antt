@@ -15,8 +15,8 @@ returns-in-Holds g c =
     offers_from g.C.Channel.slots g.C.Channel.space g.C.Channel.made g.C.Channel.tied g.K.Checksum.width g.K.Checksum.value g.S.Service.verdict
     c.args.self.hand (Holds c.in-Holds.token) c.args.packet.now c.offer_reply.result c.args.self _ c.in-Holds.is
     (record {
-      answer = c.offer_answer.result.1;
+      answer = c.offer-answer.result.1;
       reply_is = c.offer_reply.ensures;
-      exact = c.offer_answer.ensures.answer;
-      hand_is = ap Holds c.offer_answer.ensures.token;
+      exact = c.offer-answer.ensures.answer;
+      hand_is = ap Holds c.offer-answer.ensures.token;
     })

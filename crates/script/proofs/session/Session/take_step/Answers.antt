@@ -1,4 +1,4 @@
-use Rattle.std.proofs.Common.{◌≡◌, ℕ, List, sym, refl, ap, ◌∙◌, subst}
+use Rattle.std.proofs.Common.{ℕ, List, refl, subst}
 use Rattle.script.specs.declared.reply.Reply.TheVariants.{Read}
 use Rattle.script.specs.declared.step.Step.TheVariants.{Offer, Close}
 use Rattle.script.specs.declared.step.Step.TheVariants as steps
