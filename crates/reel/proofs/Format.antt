@@ -1,7 +1,7 @@
 -- The laws of the format and its worked examples, put together.
 use Rattle.std.proofs.Common.{◌≡◌, ℕ, ◌+◌, ◌<◌, List, [], ◌∷◌, ◌++◌, map, length, take, drop, Some, None, sum, sym, refl, ap, ◌∙◌, ⊎_elim, arith}
 use lib.Count.{ones}
-use Rattle.std.specs.List.{AllByRecursion as All}
+use Rattle.std.specs.List.{AllByRecursion}
 use Rattle.std.proofs.lemmas.List.{append-nil, drop_at, length-append, length-drop, take_at}
 use Rattle.std.proofs.lemmas.List.Sums.{sum_by-cons}
 use Rattle.reel.specs.Bits.{bits_of, bits, count_of_set_bits}
@@ -44,7 +44,7 @@ ones_counted (b ∷ m) are =
     set_bits_append (bits_of 8 b) (bits m) ∙ omega arith
 
 a_lawful_row : (reel : List ℕ) → Bytes reel → (reading reel).stop ≡ None
-    → All Fits (reading reel).superframes × (reel ≡ reel_of (reading reel).superframes)
+    → AllByRecursion Fits (reading reel).superframes × (reel ≡ reel_of (reading reel).superframes)
 a_lawful_row reel are end =
     let t = told_all 1 reel are in
     let ss = (reading reel).superframes in (

@@ -4,7 +4,7 @@ use Rattle.framing.specs.declared.slot.Slot.{Slot}
 use Rattle.framing.specs.declared.slot.Slot.TheVariants.{Gap, Mark}
 use Rattle.std.specs.Option.{option_map}
 use Rattle.std.specs.Result.{result_err}
-use Rattle.std.specs.List.{AllByRecursion as All}
+use Rattle.std.specs.List.{AllByRecursion}
 use Rattle.std.proofs.lemmas.Bool.{cond-true, cond-false, eq-eqb, ne_eqb, true≢false}
 use Rattle.channel.specs.Asking.{waiting}
 use Rattle.reel.specs.declared.block.Block.{Block}
@@ -26,7 +26,7 @@ whole_frames (None ∷ s) h = ap (λ (xs : List Slot). Gap ∷ xs) (whole_frames
 whole_frames (Some f ∷ s) h =
     ap₂ (λ (x : Slot) (xs : List Slot). x ∷ xs) (cond-true _ _ _ (eq-eqb (length f) 122 h.0.0)) (whole_frames s h.1)
 
-whole_superframes : (ss : List Superframe) → All Fits ss → part_slots ss ≡ reel_slots ss
+whole_superframes : (ss : List Superframe) → AllByRecursion Fits ss → part_slots ss ≡ reel_slots ss
 whole_superframes [] h = refl
 whole_superframes (s ∷ ss) h =
     ap₂ (λ (xs ys : List Slot). (xs ++ Mark ∷ []) ++ ys) (whole_frames s h.0.frames) (whole_superframes ss h.1)

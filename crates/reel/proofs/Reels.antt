@@ -1,6 +1,6 @@
 -- A reel is the row of its blocks, and can be read in one way only.
 use Rattle.std.proofs.Common.{◌≡◌, ℕ, zero, suc, ◌+◌, ◌-◌, ◌<◌, ◌≤◌, ◌⊎◌, List, [], ◌∷◌, ◌++◌, length, get_or, drop, Some, None, Ok, Err, Option, Result, sym, refl, ap, ◌∙◌, subst, ap₂, inl, inr, ⊎_elim, append_assoc, arith, w8, Fits as Byte}
-use Rattle.std.specs.List.{AllByRecursion as All}
+use Rattle.std.specs.List.{AllByRecursion}
 use Rattle.std.proofs.ByRecursion.{All-drop, All-from_get_or}
 use Rattle.std.proofs.lemmas.List.{append-nil, drop_at, length-append, length-drop, nil_from_length}
 use Rattle.std.proofs.lemmas.Bool.{cases_lt}
@@ -15,7 +15,7 @@ use Rattle.reel.proofs.Readings.{reading_none, reading_block, reading_stops}
 use Rattle.reel.proofs.Writing.{read_fits, read_written, written_lawful, written_read, written_size}
 
 -- what is written is read as it was written, and then what follows is read
-pub written_reading : (place : ℕ) (ss : List Superframe) (rest : List ℕ) → All Fits ss
+pub written_reading : (place : ℕ) (ss : List Superframe) (rest : List ℕ) → AllByRecursion Fits ss
     → reading_from 0 place (reel_of ss ++ rest) ≡ behind ss (reading_from 0 (place + length (reel_of ss)) rest)
 written_reading place [] rest fits = let e : place + 0 ≡ place = omega arith in ap (λ (p : ℕ). reading_from 0 p rest) (sym e)
 written_reading place (s ∷ ss) rest fits =
@@ -36,7 +36,7 @@ written_reading place (s ∷ ss) rest fits =
 -- What reading tells of the bytes: the blocks of its superframes stand at their beginning, and behind them is nothing, or a block that
 -- answers a question with no.
 pub record Told (place : ℕ) (bytes : List ℕ) (r : Reading) : Type 0 where
-  pub fits : All Fits r.superframes
+  pub fits : AllByRecursion Fits r.superframes
   pub rest : List ℕ
   pub whole : bytes ≡ reel_of r.superframes ++ rest
   pub stops : (r.stop ≡ None × rest ≡ []) ⊎ ((q : ℕ) × (0 < length rest) × (refusal rest ≡ Some q) × (r.stop ≡ Some (q, place + length (reel_of r.superframes))))
@@ -128,10 +128,10 @@ answer_means reel (Err f) are e =
     t.stops
 
 -- one reading only
-pub one_reading : (ss ts : List Superframe) → All Fits ss → All Fits ts → reel_of ss ≡ reel_of ts → ss ≡ ts
+pub one_reading : (ss ts : List Superframe) → AllByRecursion Fits ss → AllByRecursion Fits ts → reel_of ss ≡ reel_of ts → ss ≡ ts
 one_reading ss ts fits fits' e =
     sym (gives ss fits) ∙ ap (λ (reel : List ℕ). (reading (reel ++ [])).superframes) e ∙ gives ts fits'
   where
-    gives : (us : List Superframe) → All Fits us → (reading (reel_of us ++ [])).superframes ≡ us
+    gives : (us : List Superframe) → AllByRecursion Fits us → (reading (reel_of us ++ [])).superframes ≡ us
     gives us ok =
         ap (λ (r : Reading). r.superframes) (written_reading 1 us [] ok ∙ ap (behind us) (reading_none (1 + length (reel_of us)) [] refl)) ∙ append-nil us

@@ -1,6 +1,6 @@
 -- One block of a reel: what it holds, the bytes it is written in, and how the bytes are read.
 use Rattle.std.specs.Prelude.{◌≡◌, ℕ, ◌+◌, ◌*◌, ◌<◌, ◌≤◌, Bool, true, false, cond, ◌&&◌, List, [], ◌∷◌, ◌++◌, map, length, take, drop, is_some, IfSome, Some, None, Option, nat_le, slice_index}
-use Rattle.std.specs.List.{AllByRecursion as All}
+use Rattle.std.specs.List.{AllByRecursion}
 use Rattle.reel.specs.Bits.{bits, map_of, size_of_map, count_of_set_bits, all_clear}
 
 -- ---- what a block holds
@@ -11,7 +11,7 @@ Superframe = List (Option (List ℕ))
 
 -- bytes, and not larger numbers
 abbrev pub Bytes : List ℕ → Type 0
-Bytes = All (λ b. b < 256)
+Bytes = AllByRecursion (λ b. b < 256)
 
 -- a frame is 122 bytes
 abbrev pub IsFrame : List ℕ → Type 0
@@ -19,7 +19,7 @@ IsFrame f = (length f ≡ 122) × Bytes f
 
 -- what is there of a superframe is frames
 abbrev pub Frames : Superframe → Type 0
-Frames = All (λ slot. IfSome slot IsFrame)
+Frames = AllByRecursion (λ slot. IfSome slot IsFrame)
 
 -- a superframe that a block can hold: 1 to 200 frames and gaps
 pub record Fits (s : Superframe) : Type 0 where

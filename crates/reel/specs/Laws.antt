@@ -1,6 +1,6 @@
 -- The laws of the reel format, and its worked examples.
 use Rattle.std.specs.Prelude.{◌≡◌, ℕ, ◌+◌, List, [], ◌∷◌, ◌++◌, map, length, take, drop, Some, None, sum, count_ones}
-use Rattle.std.specs.List.{AllByRecursion as All}
+use Rattle.std.specs.List.{AllByRecursion}
 use Rattle.reel.specs.Bits.{bits, count_of_set_bits}
 use Rattle.reel.specs.Block.{Superframe, Bytes, Fits, block_of, block_size, superframe, refusal}
 use Rattle.reel.specs.Reel.{Reading, reading_from, reading, reel_of}
@@ -30,12 +30,12 @@ pub record FormatLaws : Type 0 where
   pub counted : (m : List ℕ) → Bytes m → count_of_set_bits (bits m) ≡ sum (map count_ones m)
   -- a reel that is read to its end is the row of its blocks
   pub lawful_row : (reel : List ℕ) → Bytes reel → (reading reel).stop ≡ None
-      → All Fits (reading reel).superframes × (reel ≡ reel_of (reading reel).superframes)
+      → AllByRecursion Fits (reading reel).superframes × (reel ≡ reel_of (reading reel).superframes)
   -- a row of blocks gives its superframes, and then what stands behind them is read
-  pub row_read : (ss : List Superframe) (rest : List ℕ) → All Fits ss
+  pub row_read : (ss : List Superframe) (rest : List ℕ) → AllByRecursion Fits ss
       → reading (reel_of ss ++ rest) ≡ behind ss (reading_from 0 (1 + length (reel_of ss)) rest)
   -- a reel has one reading only
-  pub one_reading : (ss ts : List Superframe) → All Fits ss → All Fits ts → reel_of ss ≡ reel_of ts → ss ≡ ts
+  pub one_reading : (ss ts : List Superframe) → AllByRecursion Fits ss → AllByRecursion Fits ts → reel_of ss ≡ reel_of ts → ss ≡ ts
 
 -- the empty reel is lawful; 0x02 0x04, a superframe of two with a bit for a third, is refused by 22 at its first byte
 pub record Examples : Type 0 where
