@@ -1,4 +1,6 @@
 //! The catalogue of the specimen reel as JSON, so that the gate compares it.
+#![tactic(auto)]
+
 use report::catalogue::write_json;
 use report::settings::{ChecksumChoice, ServiceChoice, Settings};
 use report::visit::Silent;

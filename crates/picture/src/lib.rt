@@ -1,3 +1,5 @@
 //! A picture of a reel.
+#![tactic(auto)]
+
 pub mod layout;
 pub mod map;

@@ -1,4 +1,6 @@
 //! The gallery's scripts: one command a line, played on flows, and for each command the lines that answer it.
+#![tactic(auto)]
+
 mod choosing;
 pub mod command;
 pub mod parsing;

@@ -6,7 +6,7 @@ use channel::ring::Ring;
 use checksum::checksum::Checksum;
 use checksum::crc16::Crc16;
 use checksum::none::NoChecksum;
-use reel::channel::ReelChannel;
+use reel::playing::ReelChannel;
 use script::reply::Reply;
 use script::running::{Outcome, run_steps};
 use script::step::Step;

@@ -1,4 +1,6 @@
 //! Plays the script on standard input. Its stored run walks through every command and every kind of answer.
+#![tactic(auto)]
+
 use anyhow::anyhow;
 use play::playing::{PlayFault, play};
 use std::io::Read;

@@ -9,7 +9,7 @@ use Rattle.receiver.specs.declared.reader.Reader as receivers
 use Rattle.receiver.specs.declared.answer.Reading.{Reading}
 use Rattle.receiver.specs.declared.answer.Reading.TheVariants as readings
 use Rattle.reel.specs.Playing.{waiting_slots}
-use Rattle.reel.specs.declared.channel.ReelChannel.{ReelChannel}
+use Rattle.reel.specs.declared.playing.ReelChannel.{ReelChannel}
 use Rattle.report.specs.declared.entry.Entry.TheVariants.{Short, Lost, Unfinished}
 use Rattle.report.specs.declared.entry.Verdict.{Verdict}
 use Rattle.report.specs.declared.entry.Verdict.TheVariants.{Sound, Damaged, Foreign}

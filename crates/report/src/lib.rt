@@ -1,4 +1,6 @@
 //! What a reel holds, for people and for databases: every packet and every loss, totals, names of files, pictures.
+#![tactic(auto)]
+
 pub mod catalogue;
 pub mod entry;
 pub mod json;

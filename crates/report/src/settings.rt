@@ -8,7 +8,7 @@ use checksum::crc16::Crc16;
 use checksum::none::NoChecksum;
 use receiver::answer::{BufferTooShort, Reading};
 use receiver::reader::Reader;
-use reel::channel::ReelChannel;
+use reel::playing::ReelChannel;
 use service::plain::Plain;
 use service::sync::Sync;
 

@@ -18,7 +18,7 @@ use crate::visit::{Outcome, Progress, Visitor};
 use receiver::answer::Reading;
 use receiver::reader::Reader;
 use reel::blocks::Blocks;
-use reel::channel::ReelChannel;
+use reel::playing::ReelChannel;
 use reel::counting::survey;
 use std::fmt;
 

@@ -1,4 +1,6 @@
 //! The museum's program: thin over the libraries.
+#![tactic(auto)]
+
 mod extract;
 mod output;
 mod scripts;

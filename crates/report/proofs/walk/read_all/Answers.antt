@@ -7,8 +7,8 @@ use Rattle.report.proofs.walk.read_all.Goals as goal
 
 pub returns : goal.returns
 returns g c =
-    let got = c.in-ok-read-on.ensures in
-    ap (tallied_all c.args.settings.service c.read-on.new.totals) (sym (got.out refl))
+    let got = c.in_ok-read_on.ensures in
+    ap (tallied_all c.args.settings.service c.read_on.new.totals) (sym (got.out refl))
     ∙ got.counted
     ∙ c.loop-found.invariant.2
     ∙ ap₂ (λ (t : Totals) (slots : List Slot). tallied_all c.args.settings.service t (owed_by c.args.settings (view c.args.reader.now) slots))
