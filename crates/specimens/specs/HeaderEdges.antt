@@ -1,6 +1,6 @@
 -- The edges of the questions about sync headers: for each number the last input that is answered yes and the first that is
 -- not, and which of two questions comes first.
-use Rattle.std.specs.Prelude.{◌≡◌, ℕ, Bool, true, false, List, [], ◌∷◌, Some, None, Ok, Err, Option}
+use Rattle.std.specs.Prelude.{◌≡◌, ℕ, false, List, [], ◌∷◌, Some, None, Ok, Err, Option}
 use Rattle.service.specs.Reading.{reading}
 use Rattle.service.specs.Serving.{refusal_in}
 use Rattle.service.specs.Writing.{writing}
