@@ -1,12 +1,12 @@
 -- Each reading is one of the answers that are owed, and where it answers nothing, none is.
-use Rattle.std.proofs.Common.{◌≡◌, ℕ, suc, Bool, true, false, List, [], ◌∷◌, ◌++◌, map, length, Some, None, Option, sym, refl, ap, ◌∙◌, subst, ap₂, arith}
+use Rattle.std.proofs.Common.{◌≡◌, ℕ, suc, Bool, true, false, List, [], ◌∷◌, ◌++◌, map, length, Some, None, Option, sym, refl, ap, ◌∙◌, ap₂, arith}
 use Rattle.framing.specs.declared.slot.Slot.{Slot}
 use Rattle.framing.specs.declared.slot.Slot.TheVariants.{Frame, Gap, Mark}
 use Rattle.framing.specs.Fragments.{Fragment, fragments}
 use Rattle.framing.specs.Judging.{Verdict, lawful, torn}
 use Rattle.receiver.specs.Answering.{Answer, handed_out, short, lost, mark, nothing, answer_to}
 use Rattle.receiver.specs.Answering as answers
-use Rattle.receiver.specs.Folding.{given, answers_owed}
+use Rattle.receiver.specs.Folding.{given}
 use Rattle.receiver.specs.Reading as rules
 use Rattle.receiver.specs.Reading.{Standing, Told, packet, completes, after_all, after_frame, told_of, told_of_frame, verdict_on, next_number, first_completed, Outcome, or_on, of_frame, reading_slots, reading, owed}
 use Rattle.receiver.specs.Readings.{Reads, Side, said}

@@ -1,5 +1,5 @@
 -- The names of extracted files.
-use Rattle.std.specs.Prelude.{ℕ, Bool, true, false, cond, List, [], ◌++◌, Some, None, codes, decimal, Option, nat_lt}
+use Rattle.std.specs.Prelude.{ℕ, cond, List, ◌++◌, Some, None, codes, decimal, Option, nat_lt}
 use Rattle.service.specs.declared.header.SyncHeader.{SyncHeader}
 use Rattle.report.specs.declared.entry.Verdict.{Verdict}
 use Rattle.report.specs.declared.entry.Verdict.TheVariants.{Sound, Damaged, Foreign}

@@ -1,5 +1,5 @@
 -- What the settings of a reading mean.
-use Rattle.std.specs.Prelude.{ℕ, List, [], Some, None, Option}
+use Rattle.std.specs.Prelude.{ℕ, List, [], None, Option}
 use Rattle.checksum.specs.Crc16.{crc16}
 use Rattle.service.specs.Reading.{reading}
 use Rattle.service.specs.Serving.{refusal_in}

@@ -1,5 +1,5 @@
 -- What the entries of a reel come to.
-use Rattle.std.specs.Prelude.{ℕ, ◌+◌, ◌-◌, ◌^◌, min, List, [], ◌∷◌, Some, None, Option}
+use Rattle.std.specs.Prelude.{ℕ, ◌+◌, ◌-◌, ◌^◌, min, Some, None, Option}
 use Rattle.service.specs.declared.header.Kind.{Kind}
 use Rattle.service.specs.declared.header.Kind.TheVariants.{Video, Audio, TimedData, Adaptation}
 use Rattle.service.specs.declared.header.SyncHeader.{SyncHeader}

@@ -1,5 +1,5 @@
 -- What all answers of a reel come to.
-use Rattle.std.specs.Prelude.{◌≡◌, ℕ, ◌<◌, Bool, true, false, cond, List, [], ◌∷◌, length, Option, ◌≢◌, nat_lt}
+use Rattle.std.specs.Prelude.{◌≡◌, ℕ, ◌<◌, Bool, true, false, cond, List, [], ◌∷◌, length, ◌≢◌, nat_lt}
 use Rattle.framing.specs.declared.slot.Slot.{Slot}
 use Rattle.receiver.specs.Answering.{Answer, Quality, sound, damaged, foreign, handed_out, short, lost, torn, mark, nothing}
 use Rattle.receiver.specs.Folding.{answers_owed}

@@ -1,5 +1,5 @@
 -- The words of the reports.
-use Rattle.std.specs.Prelude.{ℕ, Bool, true, false, List, [], ◌++◌, Some, None, codes, decimal, Option}
+use Rattle.std.specs.Prelude.{ℕ, Bool, true, false, List, ◌++◌, Some, None, codes, decimal, Option}
 use Rattle.service.specs.declared.header.Kind.{Kind}
 use Rattle.service.specs.declared.header.Kind.TheVariants.{Video, Audio, TimedData, Adaptation}
 use Rattle.service.specs.declared.header.SyncHeader.{SyncHeader}

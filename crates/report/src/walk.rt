@@ -18,8 +18,8 @@ use crate::visit::{Outcome, Progress, Visitor};
 use receiver::answer::Reading;
 use receiver::reader::Reader;
 use reel::blocks::Blocks;
-use reel::playing::ReelChannel;
 use reel::counting::survey;
+use reel::playing::ReelChannel;
 use std::fmt;
 
 /// How far a walk goes.

@@ -1,4 +1,4 @@
-use Rattle.std.proofs.Common.{◌≡◌, List, sym, refl, ap, ◌∙◌, ap₂}
+use Rattle.std.proofs.Common.{List, sym, refl, ap, ◌∙◌, ap₂}
 use Rattle.framing.specs.declared.slot.Slot.{Slot}
 use Rattle.receiver.specs.Views.{view}
 use Rattle.report.specs.declared.totals.Totals.{Totals}
