@@ -1,6 +1,6 @@
 -- The frames that a writer puts are lawful for a reader that has followed it.
 use Rattle.std.proofs.Common.{◌≡◌, ℕ, ◌+◌, ◌-◌, ◌<◌, ◌≤◌, true, eqb, ◌⊎◌, List, [], ◌∷◌, ◌++◌, length, take, replicate, Some, None, Option, sym, refl, ap, ◌∙◌, subst, ap₂, inl, inr, ⊎_elim, arith}
-use Rattle.std.specs.List.{AllByRecursion as All}
+use Rattle.std.specs.List.{AllByRecursion}
 use Rattle.std.proofs.ByRecursion.{All-push}
 use Rattle.std.proofs.lemmas.List.{append-nil, length-append, length-take, length-drop, length-replicate, take-append-drop, nil_from_length}
 use Rattle.std.proofs.lemmas.Bool.{cond-true, cond-false, eq-eqb, ne_eqb, eqb-true, le-leb, cases_eq}
@@ -33,7 +33,7 @@ first_stays : (width : ℕ) (at : Option (List ℕ)) (qs : List Part) (over : Li
 first_stays width at [] over short = tt
 first_stays width at (q ∷ qs) over short = stays width at (length q.bytes) (first_short (2044 + width) at q qs over short)
 
-fitting_row : (width : ℕ) (gathered : Option ℕ) (place : ℕ) (row : List Part) → 1 ≤ place → All Ends row → place + length (laid row) ≤ 123
+fitting_row : (width : ℕ) (gathered : Option ℕ) (place : ℕ) (row : List Part) → 1 ≤ place → AllByRecursion Ends row → place + length (laid row) ≤ 123
     → (place ≡ 1 → FirstStays width gathered row) → Fitting width gathered place row
 fitting_row width gathered place [] some end inside first = tt
 fitting_row width gathered place (q ∷ row) some end inside first =
@@ -45,7 +45,7 @@ fitting_row width gathered place (q ∷ row) some end inside first =
     )
 
 -- the last one ends a packet or the frame
-fitting_push : (width : ℕ) (gathered : Option ℕ) (place : ℕ) (row : List Part) (q : Part) → 1 ≤ place → All Ends row
+fitting_push : (width : ℕ) (gathered : Option ℕ) (place : ℕ) (row : List Part) (q : Part) → 1 ≤ place → AllByRecursion Ends row
     → place + length (laid (row ++ q ∷ [])) ≤ 123
     → (q.ends ≡ true) ⊎ (place + length (laid (row ++ q ∷ [])) ≡ 123)
     → (place ≡ 1 → FirstStays width gathered (row ++ q ∷ [])) → Fitting width gathered place (row ++ q ∷ [])
@@ -66,12 +66,12 @@ fitting_push width gathered place (p ∷ row) q some end inside last first =
           (λ e. absurd (omega arith)),
     )
 
-cut_at_end : (row : List Part) (q : Part) → All Ends row → CutAtEnd (row ++ q ∷ [])
+cut_at_end : (row : List Part) (q : Part) → AllByRecursion Ends row → CutAtEnd (row ++ q ∷ [])
 cut_at_end [] q end = tt
 cut_at_end (p ∷ []) q end = (end.0, tt)
 cut_at_end (p ∷ r ∷ row) q end = (end.0, cut_at_end (r ∷ row) q end.1)
 
-cut_at_end_row : (row : List Part) → All Ends row → CutAtEnd row
+cut_at_end_row : (row : List Part) → AllByRecursion Ends row → CutAtEnd row
 cut_at_end_row [] end = tt
 cut_at_end_row (p ∷ []) end = tt
 cut_at_end_row (p ∷ r ∷ row) end = (end.0, cut_at_end_row (r ∷ row) end.1)
@@ -85,7 +85,7 @@ pub record Carries (width : ℕ) (at : Option (List ℕ)) (f : List ℕ) (qs : L
   pub at_end : CutAtEnd qs
 
 -- full to the last byte, or to the last but one
-closed_carries : (width : ℕ) (at : Option (List ℕ)) (row : List Part) (q : Part) (over : List ℕ) → All Sized (row ++ q ∷ []) → All Ends row
+closed_carries : (width : ℕ) (at : Option (List ℕ)) (row : List Part) (q : Part) (over : List ℕ) → AllByRecursion Sized (row ++ q ∷ []) → AllByRecursion Ends row
     → (q.ends ≡ true) ⊎ (length (laid (row ++ q ∷ [])) ≡ 122)
     → 121 ≤ length (laid (row ++ q ∷ [])) → length (laid (row ++ q ∷ [])) ≤ 122
     → Short (2044 + width) (packets_of at (row ++ q ∷ []) over)

@@ -1,6 +1,6 @@
 -- Parsing what was laid: the fragments of a frame are those that were cut into it, and the frame is lawful.
 use Rattle.std.proofs.Common.{◌≡◌, ℕ, zero, suc, ◌+◌, ◌-◌, ◌<◌, ◌≤◌, Bool, true, false, cond, not, ◌||◌, eqb, leb, ◌⊎◌, List, [], ◌∷◌, ◌++◌, map, length, take, replicate, Some, None, Option, sym, refl, ap, ◌∙◌, ap₂, ⊎_elim, arith}
-use Rattle.std.specs.List.{flat_map, AllByRecursion as All}
+use Rattle.std.specs.List.{flat_map, AllByRecursion}
 use Rattle.std.proofs.lemmas.List.{append-nil, append_assoc, map-append, length-append, length-replicate, take_at, drop_at}
 use Rattle.std.proofs.lemmas.Bool.{cases_eq, cond-true, cond-false, eq-eqb, ne_eqb, le-leb, lt-ltb, or_left, or_right}
 use Rattle.framing.specs.Header.{count_of, last_of, byte_of, Header, headers_from}
@@ -31,7 +31,7 @@ abbrev heads : ℕ → List Part → List ℕ → List Header
 heads place [] rest = []
 heads place (q ∷ qs) rest = head_of place q (laid qs ++ rest) ∷ heads (place + 1 + length q.bytes) qs rest
 
-headers_laid : (place : ℕ) (qs : List Part) (rest : List ℕ) → All Sized qs
+headers_laid : (place : ℕ) (qs : List Part) (rest : List ℕ) → AllByRecursion Sized qs
     → headers_from place 0 (laid qs ++ rest) ≡ heads place qs rest ++ headers_from (place + length (laid qs)) 0 rest
 headers_laid place [] rest sized = ap (λ (p : ℕ). headers_from p 0 rest) (omega arith)
 headers_laid place (q ∷ qs) rest sized =
@@ -59,7 +59,7 @@ part_again place q more sized =
     (ap (λ (k : ℕ). take k (q.bytes ++ more)) count ∙ take_at q.bytes more n refl)
     (last_again n q.ends low)
 
-parts_again : (place : ℕ) (qs : List Part) (rest : List ℕ) → All Sized qs → flat_map part_of (map fragment_of (heads place qs rest)) ≡ qs
+parts_again : (place : ℕ) (qs : List Part) (rest : List ℕ) → AllByRecursion Sized qs → flat_map part_of (map fragment_of (heads place qs rest)) ≡ qs
 parts_again place [] rest sized = refl
 parts_again place (q ∷ qs) rest sized =
     ap₂ (λ (f : Fragment) (r : List Part). part_of f ++ r) (part_again place q (laid qs ++ rest) sized.0)
@@ -68,7 +68,7 @@ parts_again place (q ∷ qs) rest sized =
 abbrev pub parts_from : ℕ → List ℕ → List Part
 parts_from place rest = flat_map part_of (map fragment_of (headers_from place 0 rest))
 
-pub parts_laid : (qs : List Part) (rest : List ℕ) → All Sized qs → parts_in (laid qs ++ rest) ≡ qs ++ parts_from (1 + length (laid qs)) rest
+pub parts_laid : (qs : List Part) (rest : List ℕ) → AllByRecursion Sized qs → parts_in (laid qs ++ rest) ≡ qs ++ parts_from (1 + length (laid qs)) rest
 parts_laid qs rest sized =
     let later = headers_from (1 + length (laid qs)) 0 rest in
     ap (λ (hs : List Header). flat_map part_of (map fragment_of hs)) (headers_laid 1 qs rest sized)
@@ -76,7 +76,7 @@ parts_laid qs rest sized =
     ∙ joined_append part_of (map fragment_of (heads 1 qs rest)) (map fragment_of later)
     ∙ ap (λ (r : List Part). r ++ parts_from (1 + length (laid qs)) rest) (parts_again 1 qs rest sized)
 
-pub parts_laid_alone : (qs : List Part) → All Sized qs → parts_in (laid qs) ≡ qs
+pub parts_laid_alone : (qs : List Part) → AllByRecursion Sized qs → parts_in (laid qs) ≡ qs
 parts_laid_alone qs sized = ap parts_in (sym (append-nil (laid qs))) ∙ parts_laid qs [] sized ∙ append-nil qs
 
 -- 3. Their judgment.
@@ -128,7 +128,7 @@ passes width gathered place q more sized inside end within =
       ),
     )
 
-judged_heads : (width : ℕ) (gathered : Option ℕ) (place : ℕ) (qs : List Part) (rest : List ℕ) (hs : List Header) → All Sized qs
+judged_heads : (width : ℕ) (gathered : Option ℕ) (place : ℕ) (qs : List Part) (rest : List ℕ) (hs : List Header) → AllByRecursion Sized qs
     → Fitting width gathered place qs
     → (judgment_of width gathered (heads place qs rest ++ hs)).verdict ≡ (judgment_of width gathered hs).verdict
 judged_heads width gathered place [] rest hs sized fit = refl
@@ -138,7 +138,7 @@ judged_heads width gathered place (q ∷ qs) rest hs sized fit =
     ap (λ (a : Option ℕ). (after_first a h later).verdict) (passes width gathered place q (laid qs ++ rest) sized.0 fit.0 fit.1 fit.2)
     ∙ judged_heads width gathered (place + 1 + length q.bytes) qs rest hs sized.1 fit.3
 
-pub judged_laid : (width : ℕ) (gathered : Option ℕ) (qs : List Part) (rest : List ℕ) → All Sized qs → Fitting width gathered 1 qs
+pub judged_laid : (width : ℕ) (gathered : Option ℕ) (qs : List Part) (rest : List ℕ) → AllByRecursion Sized qs → Fitting width gathered 1 qs
     → (judgment width gathered (laid qs ++ rest)).verdict
     ≡ (judgment_of width gathered (headers_from (1 + length (laid qs)) 0 rest)).verdict
 judged_laid width gathered qs rest sized fit =

@@ -1,6 +1,6 @@
 -- A flow since its set-up, from one call to the next; and the run law of each history.
 use Rattle.std.proofs.Common.{◌≡◌, ℕ, ◌+◌, ◌<◌, ◌≤◌, Bool, false, cond, List, [], ◌∷◌, ◌++◌, map, length, Some, None, Option, sym, refl, ap, ◌∙◌, subst, ap₂, arith}
-use Rattle.std.specs.List.{AllByRecursion as All}
+use Rattle.std.specs.List.{AllByRecursion}
 use Rattle.std.proofs.lemmas.List.{append-nil, append_assoc, map-append, length-append, nil_from_length}
 use Rattle.framing.specs.declared.slot.Slot.{Slot}
 use Rattle.framing.specs.Fragments.{Fragment}
@@ -24,7 +24,7 @@ use Rattle.flow.proofs.Shows.{well_written, carries_packets}
 
 -- 1. One event more.
 
-all_append : {X : Type 0} (P : X → Type 0) (xs ys : List X) → All P xs → All P ys → All P (xs ++ ys)
+all_append : {X : Type 0} (P : X → Type 0) (xs ys : List X) → AllByRecursion P xs → AllByRecursion P ys → AllByRecursion P (xs ++ ys)
 all_append P [] ys a b = b
 all_append P (x ∷ xs) ys a b = (a.0, all_append P xs ys a.1 b)
 
@@ -126,7 +126,7 @@ module _
       since_wrote : (call : Call) (reply : Reply) (sent : List Sent) (s' : State)
           → told_by reply ≡ []
           → AllMade made sent
-          → All (Admitted refusal) (accepted_by call reply)
+          → AllByRecursion (Admitted refusal) (accepted_by call reply)
           → Keeps fasb width (checked (packets_accepted h ++ accepted_by call reply)) (map what (all_sent h) ++ map what sent) s'
           → (call ≡ history.closing → reply ≡ done → s'.begun ≡ [])
           → (reply ≡ answers nothing → ⊥)
@@ -136,7 +136,7 @@ module _
           record {
             came = came_more h e slots (slots ++ map became sent) since.came refl;
             made_so = subst (AllMade made) (sym (sent_more h e)) (all_made_append made (all_sent h) sent since.made_so made_so);
-            admitted = subst (All (Admitted refusal)) (sym (accepted_more h e)) (all_append (Admitted refusal) (packets_accepted h) (accepted_by call reply) since.admitted admitted);
+            admitted = subst (AllByRecursion (Admitted refusal)) (sym (accepted_more h e)) (all_append (Admitted refusal) (packets_accepted h) (accepted_by call reply) since.admitted admitted);
             wrote = keeps_more e s' keeps;
             read =
                 subst (λ given. Read fasb width value refusal given (all_taken (h ++ (e ∷ []))) r)
@@ -162,7 +162,7 @@ module _
           none_accepted history.closing = refl
           none_accepted history.reading = refl
 
-          none_admitted : (c : Call) → All (Admitted refusal) (accepted_by c (refused question inside))
+          none_admitted : (c : Call) → AllByRecursion (Admitted refusal) (accepted_by c (refused question inside))
           none_admitted (history.opening n) = tt
           none_admitted (offer p) = tt
           none_admitted history.closing = tt
@@ -212,7 +212,7 @@ module _
           record {
             came = came_more h e slots rest since.came (append-nil slots ∙ taken);
             made_so = subst (AllMade made) (sym (sent_more h e ∙ append-nil (all_sent h))) since.made_so;
-            admitted = subst (All (Admitted refusal)) (sym (accepted_more h e ∙ append-nil (packets_accepted h))) since.admitted;
+            admitted = subst (AllByRecursion (Admitted refusal)) (sym (accepted_more h e ∙ append-nil (packets_accepted h))) since.admitted;
             wrote =
                 keeps_more e s
                 (subst (λ ps. Keeps fasb width (checked ps) (map what (all_sent h) ++ []) s) (sym (append-nil (packets_accepted h)))

@@ -1,7 +1,7 @@
 -- What the writing side keeps from call to call: all that was put is well put, and the packets in it, in the unfinished
 -- frame and in what is carried over are those accepted.
 use Rattle.std.specs.Prelude.{◌≡◌, ℕ, ◌+◌, ◌<◌, ◌≤◌, Bool, true, false, List, [], ◌∷◌, ◌++◌, length, None}
-use Rattle.std.specs.List.{flat_map, AllByRecursion as All}
+use Rattle.std.specs.List.{flat_map, AllByRecursion}
 use Rattle.framing.specs.Header.{byte_of}
 use Rattle.channel.specs.Sending.{Put}
 use Rattle.flow.specs.Carrying.{Part, parts_in, parts_put, begun_after, packets_of, WellPut}
@@ -26,13 +26,13 @@ Ends q = q.ends ≡ true
 pub record Unfinished (begun : List ℕ) : Type 0 where
   pub row : List Part
   pub laid_is : begun ≡ laid row
-  pub sized : All Sized row
-  pub end : All Ends row
+  pub sized : AllByRecursion Sized row
+  pub end : AllByRecursion Ends row
   pub short : length begun ≤ 120
 
 -- no packet is longer than `limit`
 abbrev pub Short : ℕ → List (List ℕ) → Type 0
-Short limit ps = All (λ p. length p ≤ limit) ps
+Short limit ps = AllByRecursion (λ p. length p ≤ limit) ps
 
 -- `ps` are the packets accepted so far, each with its checksum, and `puts` is all that was put.
 pub record Keeps (fasb : Bool) (width : ℕ) (ps : List (List ℕ)) (puts : List Put) (s : State) : Type 0 where

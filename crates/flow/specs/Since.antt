@@ -1,7 +1,7 @@
 -- A flow since its set-up: how its two sides and its channel stand to its history. All of it is kept for the proof of the
 -- run law, from one call to the next; no caller has to know it.
 use Rattle.std.specs.Prelude.{◌≡◌, ℕ, Bool, List, [], ◌∷◌, ◌++◌, map, Option}
-use Rattle.std.specs.List.{AllByRecursion as All}
+use Rattle.std.specs.List.{AllByRecursion}
 use Rattle.framing.specs.declared.slot.Slot.{Slot}
 use Rattle.channel.specs.Sending.{Sent, what, AllMade}
 use Rattle.receiver.specs.Reading.{Reader, aligned, packet, completes, after_all, number_after, told_of, standing_after, owed}
@@ -40,7 +40,7 @@ pub record Since
     (h : History) (s : State) (r : Reader) (slots : List Slot) : Type 0 where
   pub came : Came h slots
   pub made_so : AllMade made (all_sent h)
-  pub admitted : All (Admitted refusal) (packets_accepted h)
+  pub admitted : AllByRecursion (Admitted refusal) (packets_accepted h)
   pub wrote : Keeps fasb width (map (λ p. p ++ value p) (packets_accepted h)) (map what (all_sent h)) s
   pub read : Read fasb width value refusal (answers_given h) (all_taken h) r
   pub settled : EndsWith closing done h → s.begun ≡ []

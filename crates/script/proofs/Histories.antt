@@ -1,6 +1,6 @@
 -- The events of steps: each step has them, and each is the exact step of the rules.
 use Rattle.std.proofs.Common.{◌≡◌, ℕ, List, [], ◌∷◌, ◌++◌, map, length, take, replicate, Ok, Err, vec_items, Option, Result, Vec, sym, refl, ap, ◌∙◌, subst, ap₂, arith}
-use Rattle.std.specs.List.{AllByRecursion as All}
+use Rattle.std.specs.List.{AllByRecursion}
 use Rattle.std.specs.declared.alloc.Global.{Global}
 use Rattle.std.proofs.lemmas.List.{take-take}
 use Rattle.framing.specs.declared.slot.Slot.{Slot}
@@ -102,7 +102,7 @@ module _
 
       -- readings one after another
       reads_events : (step : Step) → Makes step reading → (as' : List Answered) (old new : Session C K S) → ReadsOn slots space made tied width value verdict as' old new
-          → (h : History) × All (λ (e : Event). Makes step e.call) h × (map (λ (e : Event). e.reply) h ≡ map answer_told as') × Goes slots space made tied width value verdict h old.flow new.flow
+          → (h : History) × AllByRecursion (λ (e : Event). Makes step e.call) h × (map (λ (e : Event). e.reply) h ≡ map answer_told as') × Goes slots space made tied width value verdict h old.flow new.flow
       reads_events step is [] old new same = ([], tt, refl, ap (λ (s : Session C K S). s.flow) same)
       reads_events step is (a ∷ more) old new reads =
           let mid = reads.0 in

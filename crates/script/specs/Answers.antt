@@ -1,6 +1,6 @@
 -- What the steps answer, by what the calls of the flow do.
 use Rattle.std.specs.Prelude.{◌≡◌, ℕ, List, [], ◌∷◌, ◌++◌, Some, None, Ok, Err, vec_items, Option, Result}
-use Rattle.std.specs.List.{AllByRecursion as All}
+use Rattle.std.specs.List.{AllByRecursion}
 use Rattle.flow.specs.declared.faults.OpenFault.{OpenFault}
 use Rattle.flow.specs.declared.faults.OfferFault.{OfferFault}
 use Rattle.flow.specs.declared.token.SuperframeToken.{SuperframeToken}
@@ -49,7 +49,7 @@ pub record ThroughNothing (answers : List Answered) : Type 0 where
   pub earlier : List Answered
   pub last : Answered
   pub whole : answers ≡ earlier ++ last ∷ []
-  pub not_before : All NotNothing earlier
+  pub not_before : AllByRecursion NotNothing earlier
   pub then : IsNothing last
 
 abbrev pub Whole : Reply → Type 0

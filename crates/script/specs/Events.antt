@@ -1,6 +1,6 @@
 -- The history of a script: which events its steps are, and that each is the exact step of the rules.
 use Rattle.std.specs.Prelude.{◌≡◌, ℕ, List, [], ◌∷◌, ◌++◌, map, None, vec_items, Option, Result}
-use Rattle.std.specs.List.{AllByRecursion as All}
+use Rattle.std.specs.List.{AllByRecursion}
 use Rattle.framing.specs.declared.slot.Slot.{Slot}
 use Rattle.receiver.specs.declared.answer.Reading.{Reading}
 use Rattle.receiver.specs.declared.answer.BufferTooShort.{BufferTooShort}
@@ -51,7 +51,7 @@ told (Reply.Room n) = []
 told (Reply.Waits b) = []
 
 pub record EventsOf (step : Step) (reply : Reply) (events : History) : Type 0 where
-  pub calls : All (λ e. Makes step e.call) events
+  pub calls : AllByRecursion (λ e. Makes step e.call) events
   pub replies : map (λ e. e.reply) events ≡ told reply
 
 -- The history is, step by step, the events of the steps.

@@ -2,7 +2,7 @@
 use Rattle.std.specs.Prelude.{◌≡◌, ℕ, Bool, ◌⊎◌, List, [], ◌∷◌, ◌++◌, map, length, take, Ok, Err, vec_items, Option, Result, Vec}
 use Rattle.std.specs.declared.alloc.AllocError.{AllocError}
 use Rattle.std.specs.declared.alloc.Global.{Global}
-use Rattle.std.specs.List.{AllByRecursion as All}
+use Rattle.std.specs.List.{AllByRecursion}
 use Rattle.framing.specs.declared.slot.Slot.{Slot}
 use Rattle.channel.specs.Sending.{became, AllMade}
 use Rattle.runlaw.specs.History.{History, all_sent, all_taken}
@@ -29,13 +29,13 @@ pub record StoppedIn (replies : List Reply) : Type 0 where
   pub earlier : List Reply
   pub answers : Vec Answered Global
   pub replies_are : replies ≡ earlier ++ Drained answers ∷ []
-  pub whole : All Whole earlier
-  pub part : All NotNothing (vec_items answers)
+  pub whole : AllByRecursion Whole earlier
+  pub part : AllByRecursion NotNothing (vec_items answers)
 
 -- Either all steps were done, or want of memory stopped the run, before a step or in a drain.
 abbrev pub Comes : Result (Unit {0}) AllocError → List Step → List Reply → Type 0
-Comes (Ok _) steps replies = (length replies ≡ length steps) × All Whole replies
-Comes (Err e) steps replies = All Whole replies ⊎ StoppedIn replies
+Comes (Ok _) steps replies = (length replies ≡ length steps) × AllByRecursion Whole replies
+Comes (Err e) steps replies = AllByRecursion Whole replies ⊎ StoppedIn replies
 
 module _
     {C K S : Type 0} (slots : C → List Slot) (space : C → ℕ) (made : List ℕ → Slot → Type 0) (tied : C → Type 0)

@@ -3,7 +3,7 @@
 -- width and this value of each packet, and the service this verdict on each.
 use Rattle.std.specs.Prelude.{◌≡◌, ℕ, List, [], ◌∷◌, take, replicate, Ok, vec_items, Option, Result, Vec}
 use Rattle.std.specs.declared.alloc.Global.{Global}
-use Rattle.std.specs.List.{AllByRecursion as All}
+use Rattle.std.specs.List.{AllByRecursion}
 use Rattle.framing.specs.declared.slot.Slot.{Slot}
 use Rattle.channel.specs.Asking.{waiting}
 use Rattle.flow.specs.declared.faults.OpenFault.{OpenFault}
@@ -104,7 +104,7 @@ module _
     -- How far a step came: it is done; or a drain was stopped midway; or nothing was done.
     abbrev pub Took : Step → Progress → (old new : Session C K S) → Type 0
     Took step (Done reply) old new = Does step reply old new × Whole reply
-    Took step (CutShort answers) old new = Does step (Drained answers) old new × All NotNothing (vec_items answers)
+    Took step (CutShort answers) old new = Does step (Drained answers) old new × AllByRecursion NotNothing (vec_items answers)
     Took step NotBegun old new = new ≡ old
 
     -- Ending a session closes the superframe that is open, if any.

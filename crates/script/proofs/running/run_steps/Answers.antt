@@ -1,5 +1,5 @@
 use Rattle.std.proofs.Common.{◌≡◌, ℕ, ◌+◌, List, [], ◌∷◌, ◌++◌, length, take, vec_items, sym, refl, ap, ◌∙◌, subst, inl, inr, arith}
-use Rattle.std.specs.List.{AllByRecursion as All}
+use Rattle.std.specs.List.{AllByRecursion}
 use Rattle.std.proofs.ByRecursion.{All-push}
 use Rattle.std.proofs.lemmas.List.{length-append}
 use Rattle.script.specs.declared.progress.Progress.TheVariants.{Done, CutShort, NotBegun}
@@ -71,7 +71,7 @@ loop-step-preserved g c =
           (follows_on g.C.Channel.slots g.C.Channel.space g.C.Channel.made g.C.Channel.tied g.K.Checksum.width g.K.Checksum.value g.S.Service.verdict
           c.args.steps.now c.loop-step.step-index (vec_items c.loop-step.replies) c.step-item.result last c.begin-session.result c.loop-step.session c.take_step-next.result.0
           (omega arith) c.step-item.is c.loop-step.invariant.0 done.0),
-      subst (λ (l : List Reply). All Whole l) items (All-push Whole before last c.loop-step.invariant.1 done.1),
+      subst (λ (l : List Reply). AllByRecursion Whole l) items (All-push Whole before last c.loop-step.invariant.1 done.1),
       ap length (sym items) ∙ length-append before (last ∷ []) ∙ ap (λ (n : ℕ). n + 1) c.loop-step.invariant.2,
     )
 

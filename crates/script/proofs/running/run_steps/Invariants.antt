@@ -1,5 +1,5 @@
 use Rattle.std.proofs.Common.{◌≡◌, length, take, vec_items}
-use Rattle.std.specs.List.{AllByRecursion as All}
+use Rattle.std.specs.List.{AllByRecursion}
 use Rattle.script.specs.Answers.{Whole}
 use Rattle.script.specs.Scripts.{Follows}
 use Rattle.script.proofs.running.run_steps.Given as goal
@@ -9,5 +9,5 @@ abbrev pub invariant-loop-step : goal.invariant-loop-step
 invariant-loop-step g l =
     Follows g.C.Channel.slots g.C.Channel.space g.C.Channel.made g.C.Channel.tied g.K.Checksum.width g.K.Checksum.value g.S.Service.verdict
     (take l.step-index l.steps) (vec_items l.replies) l.initial.session l.session
-    × All Whole (vec_items l.replies)
+    × AllByRecursion Whole (vec_items l.replies)
     × (length (vec_items l.replies) ≡ l.step-index)

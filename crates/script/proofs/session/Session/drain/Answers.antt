@@ -1,5 +1,5 @@
 use Rattle.std.proofs.Common.{◌≡◌, List, [], ◌∷◌, ◌++◌, vec_items, sym, refl, ap, ◌∙◌, subst}
-use Rattle.std.specs.List.{AllByRecursion as All}
+use Rattle.std.specs.List.{AllByRecursion}
 use Rattle.std.proofs.ByRecursion.{All-push}
 use Rattle.script.specs.declared.reply.Answered.{Answered}
 use Rattle.script.specs.Answers.{NotNothing}
@@ -19,7 +19,7 @@ returns-in_default g c =
             ReadsOn g.C.Channel.slots g.C.Channel.space g.C.Channel.made g.C.Channel.tied g.K.Checksum.width g.K.Checksum.value g.S.Service.verdict l c.args.self c.loop-buffer.session)
             items c.loop-buffer.invariant.0;
       },
-      subst (λ (l : List Answered). All NotNothing l) items c.loop-buffer.invariant.1,
+      subst (λ (l : List Answered). AllByRecursion NotNothing l) items c.loop-buffer.invariant.1,
     )
 
 pub returns-then-last : goal.returns-then-last
@@ -62,6 +62,6 @@ loop-buffer-preserved g c =
       drains_more g.C.Channel.slots g.C.Channel.space g.C.Channel.made g.C.Channel.tied g.K.Checksum.width g.K.Checksum.value g.S.Service.verdict
           before (vec_items c.push_reserved.new.self) c.read-next.result.1 (vec_items c.in-Ok.buffer) c.args.self c.loop-buffer.session c.read-next.result.0
           items c.in-Ok.ensures.made.0 c.loop-buffer.invariant.0 c.read-next.ensures,
-      subst (λ (l : List Answered). All NotNothing l) (sym items)
+      subst (λ (l : List Answered). AllByRecursion NotNothing l) (sym items)
           (All-push NotNothing before c.read-next.result.1 c.loop-buffer.invariant.1 (c.is_nothing-last.ensures.1 c.if-last.false)),
     )

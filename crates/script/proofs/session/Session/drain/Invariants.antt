@@ -1,5 +1,5 @@
 use Rattle.std.proofs.Common.{vec_items}
-use Rattle.std.specs.List.{AllByRecursion as All}
+use Rattle.std.specs.List.{AllByRecursion}
 use Rattle.script.specs.Answers.{NotNothing}
 use Rattle.script.specs.Steps.{ReadsOn}
 use Rattle.script.proofs.Drained.{untold}
@@ -9,7 +9,7 @@ abbrev pub invariant-loop-buffer : goal.invariant-loop-buffer
 invariant-loop-buffer g l =
     ReadsOn g.C.Channel.slots g.C.Channel.space g.C.Channel.made g.C.Channel.tied g.K.Checksum.width g.K.Checksum.value g.S.Service.verdict
     (vec_items l.answers) l.initial.session l.session
-    × All NotNothing (vec_items l.answers)
+    × AllByRecursion NotNothing (vec_items l.answers)
 
 abbrev pub decreases-loop-buffer : goal.decreases-loop-buffer
 decreases-loop-buffer g l =
