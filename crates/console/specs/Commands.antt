@@ -1,5 +1,5 @@
 -- What the arguments ask for.
-use Rattle.std.specs.Prelude.{◌≡◌, ℕ, List, Some, None, Option}
+use Rattle.std.specs.Prelude.{◌≡◌, ℕ, List, [], ◌∷◌, Some, None, Option, String, string_bytes}
 use Rattle.console.specs.declared.command.Command.{Command}
 use Rattle.console.specs.declared.command.Command.TheVariants.{Catalogue, Extract, Map, Verify, Frames, Header, Play, Help, Version}
 use Rattle.console.specs.declared.verb.Verb.{Verb}
@@ -27,3 +27,8 @@ RunsOnly verb (Some other) = other ≡ verb
 abbrev pub NamedBy : List ℕ → Option Verb → Type 0
 NamedBy word None = Unit {0}
 NamedBy word (Some verb) = word ≡ verb_word verb
+
+-- what is run, if anything, is the command that the first of these words names; without a word nothing is
+abbrev pub NamedFirst : {A : Type 0} → List (String A) → Option Verb → Type 0
+NamedFirst [] run = run ≡ None
+NamedFirst (word ∷ rest) run = NamedBy (string_bytes word) run

@@ -1,7 +1,8 @@
 //! What the arguments ask for.
 ghost use Rattle.std.specs.Prelude.{◌≡◌, ℕ, List, IfOk, Some};
-ghost use Rattle.console.specs.Commands.{runs, RunsOnly, NamedBy};
+ghost use Rattle.console.specs.Commands.{runs, RunsOnly, NamedBy, NamedFirst};
 
+pub use crate::help::{HELP, VERSION};
 use crate::nearest::{nearest_first, nearest_switch, nearest_verb};
 use crate::verb::{Switch, Verb};
 use report::settings::{ChecksumChoice, ServiceChoice, Settings};
@@ -423,8 +424,18 @@ fn help_on<'a>(rest: &'a [String]) -> Result<Command<'a>, CommandFault<'a>>
     }
 }
 
+/// What the words after the program's name ask for.
+pub fn parse(words: &[String]) -> Result<Command<'_>, CommandFault<'_>>
+    ensures { IfOk result (λ c. NamedFirst words.now (runs c)) }
+{
+    let Some(first) = words.first() else {
+        return Err(CommandFault::Missing);
+    };
+    parse_first(first.as_str(), &words[1..])
+}
+
 /// What the first word after the program's name and those behind it ask for.
-pub fn parse<'a>(word: &'a str, rest: &'a [String]) -> Result<Command<'a>, CommandFault<'a>>
+pub fn parse_first<'a>(word: &'a str, rest: &'a [String]) -> Result<Command<'a>, CommandFault<'a>>
     ensures { IfOk result (λ c. NamedBy word.now (runs c)) }
 {
     match word {

@@ -2,7 +2,7 @@
 use crate::verb::Verb;
 
 /// What `--version` prints.
-pub const VERSION: &str = "rothveam 0.2.0\n";
+pub const VERSION: &str = "rothveam 0.1.0\n";
 
 /// What `--help` prints.
 pub const HELP: &str =

@@ -296,10 +296,7 @@ fn run(rt: &HostRuntime) -> anyhow::Result<()> {
     for word in env::args(rt)?.skip(1) {
         words.push(word)?;
     }
-    let Some(first) = words.first() else {
-        return wrong_arguments(rt, CommandFault::Missing);
-    };
-    match parse(first.as_str(), &words[1..]) {
+    match parse(words.as_slice()) {
         Ok(Command::Verify { reel }) => verify(rt, reel, load(rt, reel)?.as_slice()),
         Ok(Command::Frames { reel, progress }) => {
             frames(rt, reel, load(rt, reel)?.as_slice(), progress)
