@@ -1,5 +1,5 @@
 -- The lines that answer the commands of a script that need no flow. Each says what the rules give, in the script's words.
-use Rattle.std.specs.Prelude.{◌≡◌, ℕ, Bool, true, false, cond, ◌&&◌, List, [], ◌∷◌, ◌++◌, length, Some, None, Ok, Err, codes, decimal, MatchBool, Option, Result, nat_le}
+use Rattle.std.specs.Prelude.{◌≡◌, ℕ, Bool, true, false, cond, ◌&&◌, List, [], ◌++◌, length, Some, None, Ok, Err, codes, decimal, MatchBool, Option, Result, nat_le}
 use Rattle.channel.specs.Patterns.{shown}
 use Rattle.channel.specs.declared.pattern.FadePattern.{FadePattern}
 use Rattle.checksum.specs.Crc16.{crc16}
