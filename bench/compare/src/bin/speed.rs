@@ -151,7 +151,7 @@ fn main() {
     if sizes.is_empty() {
         sizes = vec![1, 10, 100];
     }
-    println!("In MB/s, medians of the processor time of several turns, the three in turn. Proved: rt staticlib, which is clang -O3 for");
+    println!("In MB/s, medians of the processor time of several turns, the three in turn. Proved: rt lib, which is LLVM at opt-level 2 for");
     println!("plain x86-64. Rust: cargo build --release, opt-level 3, fat LTO, for plain x86-64. memcpy: glibc's, on as many bytes.");
     println!("`vs Rust` is how many times as fast the proved code is; `vs memcpy` how many times as long it takes. No buffer is cleared between.");
     println!();
