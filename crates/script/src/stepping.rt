@@ -233,6 +233,7 @@ impl<C: Channel, K: Checksum, S: Service> Session<C, K, S> {
     }
 
     /// Closes the superframe that is open, if any, and gives the flow.
+    #[tactic(auto, using(crate::proofs::Tokens::empties, crate::proofs::Tokens::ended))]
     pub fn end(self) -> Flow<C, K, S>
         ensures { Ended C.slots C.space C.made C.tied K.width K.value S.verdict self.hand self.flow result }
     {

@@ -1,4 +1,4 @@
-use Rattle.std.proofs.Common.{◌≡◌, refl, arith}
+use Rattle.std.proofs.Common.{◌≡◌, refl, arith, rules}
 use Rattle.channel.specs.Sending.{a_frame, a_mark}
 use Rattle.flow.proofs.Sends.{puts_one}
 use Rattle.flow.proofs.States.{same_state, begun_none}
@@ -18,6 +18,5 @@ returns g c =
       state = same_state _ _ refl none (begun_none c.loop-writer.writer none) c.loop-writer.invariant.over;
       puts =
           padding_ends c.loop-writer.invariant none
-          (puts_one g.C.Channel.slots g.C.Channel.space g.C.Channel.made g.C.Channel.tied
-          a_mark c.put_mark.result _ _ c.put_mark.ensures);
+          (search (rules, puts_one g.C.Channel.slots g.C.Channel.space g.C.Channel.made g.C.Channel.tied a_mark));
     }
