@@ -1,5 +1,5 @@
 #!/usr/bin/env python3
-"""Writes the specimen reel that programs are run on in the gate, data/specimen.reel of crates/rothveam and crates/catalogue_json.
+"""Writes the specimen reel that programs are run on in the gate, data/specimen.reel of crates/rothveam, crates/catalogue_json and crates/catalogue_text.
 
 A short evening of one flow under CRC-16, with sync packets that do not cross superframes. It has what a cataloguer meets:
 video, audio and captions, a lost frame, a torn frame, a damaged packet, a packet of another service, and an empty superframe.
@@ -107,7 +107,7 @@ def reel():
 
 if __name__ == "__main__":
     crates = pathlib.Path(__file__).parent.parent / "crates"
-    targets = [pathlib.Path(name) for name in sys.argv[1:]] or [crates / name / "data/specimen.reel" for name in ("rothveam", "catalogue_json")]
+    targets = [pathlib.Path(name) for name in sys.argv[1:]] or [crates / name / "data/specimen.reel" for name in ("rothveam", "catalogue_json", "catalogue_text")]
     for target in targets:
         target.write_bytes(reel())
         print(f"{target}: {len(reel())} bytes")

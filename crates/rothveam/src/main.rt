@@ -24,6 +24,7 @@ use report::visit::{Outcome, Progress};
 use report::walk::walk;
 use std::fmt::Write;
 use std::fs::File;
+use std::process::ExitCode;
 use std::{env, fmt, fs};
 
 /// What a file holds, or a message that says which file cannot be read.
@@ -324,6 +325,9 @@ fn run(rt: &HostRuntime) -> anyhow::Result<()> {
 }
 
 /// What went wrong has been told by then; an error makes the exit status 1.
-fn main(rt: HostRuntime) -> anyhow::Result<()> {
-    run(&rt)
+fn main(rt: HostRuntime) -> ExitCode {
+    match run(&rt) {
+        Ok(()) => ExitCode::SUCCESS,
+        Err(_) => ExitCode::FAILURE,
+    }
 }
