@@ -1,30 +1,9 @@
 -- Patterns, and lists that come through a fade.
-use Rattle.std.proofs.Common.{◌≡◌, ℕ, ◌+◌, ◌*◌, ◌/◌, ◌%◌, ◌<◌, ◌≤◌, Bool, true, false, cond, leb, List, length, get_or, take, Some, None, sym, refl, ap, ◌∙◌, mod-lt, arith}
+use Rattle.std.proofs.Common.{◌≡◌, ℕ, ◌+◌, ◌*◌, ◌/◌, ◌%◌, Bool, true, false, cond, List, length, get_or, sym, refl, ap, ◌∙◌}
 use native.Mathlib.Nat.{mod-add-mod, mod-mod}
-use Rattle.std.proofs.lemmas.List.{length-take, get_or-take}
-use Rattle.std.proofs.lemmas.Bool.{le-leb, and_from}
 use Rattle.framing.specs.declared.slot.Slot.{Slot}
 use Rattle.framing.specs.declared.slot.Slot.TheVariants.{Frame, Gap, Mark}
-use Rattle.channel.specs.Patterns.{length_question, is_set, passes, through, number_after}
-
--- a length of 1 to 64 is not refused
-pub length_right : (n : ℕ) → 1 ≤ n → n ≤ 64 → length_question n ≡ None
-length_right n low high =
-    let fits = and_from (leb 1 n) (leb n 64) (le-leb 1 n low) (le-leb n 64 high) in
-    ap (λ (b : Bool). cond b None (Some 20)) fits
-
--- the bit as it is read from the array that has the pattern at its front; n is how many bits the pattern has
-pub bit_read :
-    (bytes : List ℕ) (size k n : ℕ) → n ≡ 8 * length (take size bytes) → 0 < n
-    → is_set (get_or bytes (k % n / 8) 0) (k % n % 8) ≡ passes (take size bytes) k
-bit_read bytes size k n bits some =
-    let at = k % n in
-    let below : at < n = mod-lt k some in
-    let short = length-take size bytes in
-    let within : at / 8 < size = omega arith in
-    let read : get_or (take size bytes) (at / 8) 0 ≡ get_or bytes (at / 8) 0 = get_or-take size bytes (at / 8) 0 within in
-    ap (λ (b : ℕ). is_set b (at % 8)) (sym read)
-    ∙ ap (λ (m : ℕ). is_set (get_or (take size bytes) (k % m / 8) 0) (k % m % 8)) bits
+use Rattle.channel.specs.Patterns.{is_set, passes, through, number_after}
 
 -- the bit of a number, brought below the pattern's bits
 pub passes_round : (pattern : List ℕ) (k : ℕ) → passes pattern (k % (8 * length pattern)) ≡ passes pattern k

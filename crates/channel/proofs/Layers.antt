@@ -9,7 +9,7 @@ use Rattle.channel.specs.declared.fade.Fade.{Fade}
 use Rattle.channel.specs.Answers.{PutAnswer, TakeAnswer}
 use Rattle.channel.specs.Sending.{Arrives, Put, Sent, sent_frame, sent_mark, what, became, AllMade, Went}
 use Rattle.channel.specs.Patterns.{shown, passes, through, number_after, faded}
-use Rattle.channel.specs.Fading.{fade_slots, fade_space, Fades, FadeTied, SameBit, TakeBelow}
+use Rattle.channel.specs.Fading.{fade_slots, fade_space, Fades, FadeTied, SameBit}
 use Rattle.channel.proofs.Fades.{passes_round}
 
 -- numbers with one bit are as good as each other
@@ -134,25 +134,16 @@ pub fade_take :
     → SameBit old.pattern new.number (number_after old.number s)
     → new.channel ≡ below → new.pattern ≡ old.pattern
     → TakeAnswer (fade_slots slots) (fade_space space) (FadeTied tied) (Some given) old new
-    × TakeBelow slots space tied (Some given) old new
 fade_take {C} {slots} {space} {tied} s old new given {below} a gives counts channel pattern =
     let seen = shown old.pattern in
     let after = number_after old.number s in
     let rest : fade_slots slots new ≡ faded seen after (slots below) =
     ap₂ (λ (p : FadePattern) (c : C). faded (shown p) new.number (slots c)) pattern channel
-    ∙ faded_same seen new.number after (slots below) counts in (
-      record {
-        first =
-            ap (faded seen old.number) a.first
-            ∙ ap₂ (λ (x : Slot) (l : List Slot). x ∷ l) (sym gives) (sym rest);
-        frees = subst (λ (c : C). space old.channel ≤ space c) (sym channel) a.frees;
-        keeps = λ t. subst tied (sym channel) (a.keeps t);
-      },
-      record {
-        taken = Some s;
-        below = subst (λ (c : C). TakeAnswer slots space tied (Some s) old.channel c) (sym channel) a;
-        gives = ap Some gives;
-        pattern = pattern;
-        number = counts;
-      },
-    )
+    ∙ faded_same seen new.number after (slots below) counts in
+    record {
+      first =
+          ap (faded seen old.number) a.first
+          ∙ ap₂ (λ (x : Slot) (l : List Slot). x ∷ l) (sym gives) (sym rest);
+      frees = subst (λ (c : C). space old.channel ≤ space c) (sym channel) a.frees;
+      keeps = λ t. subst tied (sym channel) (a.keeps t);
+    }

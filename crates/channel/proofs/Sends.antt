@@ -1,7 +1,7 @@
 -- Laws of what went onto a channel.
-use Rattle.std.proofs.Common.{◌≡◌, ℕ, ◌+◌, ◌<◌, ◌≤◌, true, false, ltb, List, [], ◌∷◌, ◌++◌, map, length, is_err, IfOk, Some, None, Ok, Err, Result, sym, refl, ap, ◌∙◌, subst, ap₂, ⊎_elim, arith}
-use Rattle.std.proofs.lemmas.List.{append-nil, append_assoc, map-append, length-append}
-use Rattle.std.proofs.lemmas.Bool.{cond-true, lt-ltb, cases_lt}
+use Rattle.std.proofs.Common.{◌≡◌, ℕ, ◌+◌, ◌<◌, false, ltb, List, [], ◌∷◌, ◌++◌, map, is_err, IfOk, Some, None, Ok, Err, Result, sym, refl, ap, ◌∙◌, subst, ap₂, arith}
+use Rattle.std.proofs.lemmas.List.{append_assoc, map-append, length-append}
+use Rattle.std.proofs.lemmas.Bool.{cond-true, lt-ltb}
 use Rattle.framing.specs.declared.slot.Slot.{Slot}
 use Rattle.framing.specs.declared.slot.Slot.TheVariants.{Mark}
 use Rattle.channel.specs.declared.channel.Full.{Full}
@@ -11,23 +11,9 @@ use Rattle.channel.specs.Outgoings.{as_put, AllPut}
 use Rattle.channel.specs.Asking.{refusal, room_question}
 use Rattle.channel.specs.Sending.{Arrives, Put, a_frame, a_mark, Sent, sent_frame, sent_mark, what, became, AllMade, Went}
 
--- where there is room the question is answered yes, and where there is none it refuses
+-- where there is room the question is answered yes
 pub room_open : (room : ℕ) → 0 < room → room_question room ≡ None
 room_open room some = cond-true (ltb 0 room) None (Some 9) (lt-ltb 0 room some)
-
-pub room_shut : (room : ℕ) → room ≡ 0 → room_question room ≡ Some 9
-room_shut room none = ap room_question none
-
-pub room_none : (room : ℕ) → room_question room ≡ Some 9 → room ≡ 0
-room_none room refused =
-    ⊎_elim
-    (λ (some : 0 < room). let yes_room = room_open room some in let clash : ◌≡◌ {A = ℕ} 0 1 = cc in absurd (omega arith))
-    (λ (none : room ≤ 0). omega arith)
-    (cases_lt 0 room)
-
--- nothing was put
-pub went_none : {made : List ℕ → Slot → Type 0} (old : List Slot) (room : ℕ) → Went made [] old room old room
-went_none old room = record { sent = []; each = refl; made_so = tt; grew = sym (append-nil old); fell = omega arith }
 
 -- what was sent first, and what was sent then
 pub all_made_join :
@@ -75,12 +61,6 @@ went_put (Err full) room asked some went =
     absurd (omega arith)
 
 -- frames and marks put one after another
-pub all_put_none :
-    {C : Type 0} {slots : C → List Slot} {space : C → ℕ} {made : List ℕ → Slot → Type 0} {tied : C → Type 0} (c : C)
-    → AllPut slots space made tied [] c c
-all_put_none {C} {slots} {space} c =
-    record { counts = omega arith; joins = λ _. went_none (slots c) (space c); keeps = λ t. t }
-
 pub all_put_more :
     {C : Type 0} {slots : C → List Slot} {space : C → ℕ} {made : List ℕ → Slot → Type 0} {tied : C → Type 0}
     (items : List Outgoing) (item : Outgoing) (r : Result (Unit {0}) Full) {old mid new : C}
@@ -98,16 +78,3 @@ all_put_more {C} {slots} {space} {made} items item (Ok _) {old} {mid} {new} befo
       keeps = λ t. a.keeps (before.keeps t);
     }
 all_put_more items item (Err full) before a ok = let clash : ◌≡◌ {A = ℕ} 0 1 = cc in absurd (omega arith)
-
--- the channel is as it was where the put was refused, and its room is 0
-pub all_put_refused :
-    {C : Type 0} {slots : C → List Slot} {space : C → ℕ} {made : List ℕ → Slot → Type 0} {tied : C → Type 0}
-    (items : List Outgoing) {put : Put} (r : Result (Unit {0}) Full) {old mid new : C}
-    → AllPut slots space made tied items old mid
-    → PutAnswer slots space made tied put r mid new → true ≡ is_err r
-    → AllPut slots space made tied items old new × (space old ≡ length items)
-all_put_refused items (Ok _) before a no_way = let clash : ◌≡◌ {A = ℕ} 0 1 = cc in absurd (omega arith)
-all_put_refused {C} {slots} {space} {made} {tied} items (Err full) {old} {mid} before a err = (
-  subst (λ (c : C). AllPut slots space made tied items old c) (sym a.same) before,
-  (let none = room_none (space mid) (sym a.asked) in omega (arith, before.counts)),
-)

@@ -3,13 +3,13 @@ ghost use Rattle.framing.specs.declared.slot.Slot.{Slot};
 ghost use Rattle.channel.specs.Answers.{PutAnswer, TakeAnswer};
 ghost use Rattle.channel.specs.Asking.{waiting};
 ghost use Rattle.channel.specs.Asking.{number as full_number};
-ghost use Rattle.channel.specs.Sending.{a_frame, a_mark};
+ghost use Rattle.channel.specs.Outgoings.{as_put};
 
-use framing::frame::Frame;
+use crate::sending::Outgoing;
 use framing::slot::Slot;
 
 /// The refusal of a put: the channel has no room for one more slot.
-#[derive(Clone, Copy, Debug)]
+#[derive(Clone, Copy, PartialEq, Eq, Debug)]
 pub struct Full;
 
 impl Full {
@@ -45,14 +45,10 @@ pub trait Channel {
     fn waits(&self) -> bool
         ensures { result ≡ waiting (slots self.now) };
 
-    /// Puts a frame. It is refused where the room is 0, and nothing changes then; else what the channel makes of the frame
-    /// joins the end of the list, and the room falls by one.
-    fn put_frame(&mut self, frame: &Frame) -> Result<(), Full>
-        ensures { PutAnswer slots space made tied (a_frame frame.now.bytes) result self.old self.new };
-
-    /// Puts the mark that ends a superframe. It is refused as a frame is, and joins the list as a mark.
-    fn put_mark(&mut self) -> Result<(), Full>
-        ensures { PutAnswer slots space made tied a_mark result self.old self.new };
+    /// Puts a frame or a mark. It is refused where the room is 0, and nothing changes then; else the room falls by one, and a mark
+    /// joins the end of the list as a mark, a frame as what the channel makes of it.
+    fn put(&mut self, item: &Outgoing) -> Result<(), Full>
+        ensures { PutAnswer slots space made tied (as_put item.now) result self.old self.new };
 
     /// Takes the first slot off the list, and never lowers the room. Where no slot waits, nothing changes.
     fn take(&mut self) -> Option<Slot>

@@ -1,14 +1,12 @@
 ghost use Rattle.std.specs.Prelude.{◌≡◌};
 ghost use Rattle.channel.specs.Answers.{PutAnswer, TakeAnswer};
-ghost use Rattle.channel.specs.Sending.{a_frame, a_mark};
 ghost use Rattle.channel.specs.Outgoings.{as_put};
 ghost use Rattle.channel.specs.Patterns.{shown, faded, through, number_after};
 ghost use Rattle.channel.specs.Fading.{fade_slots, fade_space, Fades, FadeTied, SameBit, PutBelow, TakeBelow};
 
 use crate::channel::{Channel, Full};
 use crate::pattern::FadePattern;
-use crate::sending::{Outgoing, put_one};
-use framing::frame::Frame;
+use crate::sending::Outgoing;
 use framing::slot::Slot;
 
 /// A layer over any channel that loses frames by a pattern, in the order in which they are taken.
@@ -47,14 +45,6 @@ impl<C: Channel> Fade<C> {
         channel
     }
 
-    /// Puts a frame or a mark on the channel below.
-    fn put_below(&mut self, item: &Outgoing) -> Result<(), Full>
-        ensures answers { PutAnswer (fade_slots C.slots) (fade_space C.space) (Fades C.made) (FadeTied C.tied) (as_put item.now) result self.old self.new }
-        ensures exact { PutBelow C.slots C.space C.made C.tied (as_put item.now) result self.old self.new }
-    {
-        put_one(&mut self.channel, item)
-    }
-
     /// What comes through of the slot that is taken next.
     fn pass(&mut self, slot: Slot) -> Slot
         ensures gives { result ≡ through (shown self.old.pattern) self.old.number slot }
@@ -91,18 +81,11 @@ impl<C: Channel> Channel for Fade<C> {
         self.channel.waits()
     }
 
-    fn put_frame(&mut self, frame: &Frame) -> Result<(), Full>
-        ensures answers { PutAnswer (fade_slots C.Channel.slots) (fade_space C.Channel.space) (Fades C.Channel.made) (FadeTied C.Channel.tied) (a_frame frame.now.bytes) result self.old self.new }
-        ensures exact { PutBelow C.Channel.slots C.Channel.space C.Channel.made C.Channel.tied (a_frame frame.now.bytes) result self.old self.new }
+    fn put(&mut self, item: &Outgoing) -> Result<(), Full>
+        ensures answers { PutAnswer (fade_slots C.Channel.slots) (fade_space C.Channel.space) (Fades C.Channel.made) (FadeTied C.Channel.tied) (as_put item.now) result self.old self.new }
+        ensures exact { PutBelow C.Channel.slots C.Channel.space C.Channel.made C.Channel.tied (as_put item.now) result self.old self.new }
     {
-        self.put_below(&Outgoing::Frame(*frame))
-    }
-
-    fn put_mark(&mut self) -> Result<(), Full>
-        ensures answers { PutAnswer (fade_slots C.Channel.slots) (fade_space C.Channel.space) (Fades C.Channel.made) (FadeTied C.Channel.tied) a_mark result self.old self.new }
-        ensures exact { PutBelow C.Channel.slots C.Channel.space C.Channel.made C.Channel.tied a_mark result self.old self.new }
-    {
-        self.put_below(&Outgoing::Mark)
+        self.channel.put(item)
     }
 
     fn take(&mut self) -> Option<Slot>

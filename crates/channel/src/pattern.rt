@@ -1,11 +1,11 @@
 ghost use Rattle.std.specs.Prelude.{◌≡◌, ◌*◌, ◌<◌, ◌≤◌, [], ◌∷◌, length, OnErr, OnOk};
 ghost use Rattle.channel.specs.Patterns.{shown, pattern_number, pattern_refusal, length_question, is_set, passes};
 
-/// Why a pattern was refused.
-#[derive(Clone, Copy, Debug)]
+/// Why a pattern was refused, by the number of its question.
+#[derive(Clone, Copy, PartialEq, Eq, Debug)]
 pub enum PatternFault {
     /// It has no byte, or more than 64.
-    Length,
+    Length = 20,
 }
 
 impl PatternFault {
@@ -13,14 +13,15 @@ impl PatternFault {
     pub fn number(self) -> u8
         ensures { result ≡ pattern_number self }
     {
-        match self {
-            PatternFault::Length => 20,
-        }
+        self as u8
     }
 }
 
 /// Which frames a fade loses, as 1 to 64 bytes whose bits are taken in turn: a clear bit loses one.
-#[derive(Clone, Copy)]
+// An array and not a vector of a fixed capacity, since a pattern is copied. Its length is no invariant, since there is no proof of
+// a fade over a fade over a ring where the pattern has one; so each place in it has a meaning. What stands behind it has none, so
+// two patterns are not compared by their fields.
+#[derive(Clone, Copy, Debug)]
 pub struct FadePattern {
     bytes: [u8; 64],
     /// The place of the last byte; one past the array counts as its last.
@@ -39,6 +40,7 @@ impl FadePattern {
     }
 
     /// Takes these bytes for the pattern.
+    // A step of its own after `new`, since a refusal leaves the pattern that was there.
     pub fn prepare(&mut self, bytes: &[u8]) -> Result<(), PatternFault>
         ensures asked { pattern_refusal result ≡ length_question (length bytes.now) }
         ensures same { OnErr result (self.new ≡ self.old) }
@@ -71,6 +73,7 @@ impl FadePattern {
 }
 
 /// Whether a bit of a byte is set, counted from 0 for the lowest.
+// The service asks this by numbers from 1 and a reel of a row of bytes: one function for all would be this line and a way round it.
 fn bit_is_set(byte: u8, bit: usize) -> bool
     requires { bit < 8 }
     ensures { result ≡ is_set byte bit }

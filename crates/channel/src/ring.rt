@@ -1,7 +1,5 @@
-ghost use Rattle.std.specs.Prelude.{◌≡◌, ◌+◌, ◌-◌, ◌*◌, ◌/◌, ◌%◌, ◌<◌, min, [], ◌∷◌, ◌++◌, length, IfSome, MatchOption, OnOk};
-ghost use Rattle.framing.specs.declared.slot.Slot.TheVariants.{Frame as a_slot_with, Mark as a_mark_slot};
+ghost use Rattle.std.specs.Prelude.{◌≡◌, ◌/◌, ◌<◌, [], length, IfSome, MatchOption, OnOk};
 ghost use Rattle.channel.specs.Answers.{PutAnswer, TakeAnswer};
-ghost use Rattle.channel.specs.Sending.{a_frame, a_mark};
 ghost use Rattle.channel.specs.Outgoings.{as_put, as_slot};
 ghost use Rattle.channel.specs.Rings.{capacity, slot_at, place_behind, kept, room_in, RingTied, Unchanged, OnlyAt, Pushed, Popped};
 
@@ -12,13 +10,16 @@ use framing::slot::Slot;
 
 /// The bytes that a slot takes in the memory: one that tells a frame from a mark, and the frame's.
 const SLOT: usize = 123;
-/// The first byte of a slot that is a frame, and of one that is a mark.
+
+/// The first byte of a slot that is a frame.
 const FRAME: u8 = 0;
 
+/// The first byte of a slot that is a mark.
 const MARK: u8 = 1;
 
 /// A channel that keeps its slots in handed-in memory, and loses and changes nothing. A slot takes 123 bytes, and what is left
 /// over at the end of the memory is never touched.
+// A queue in a row of bytes, since a channel uses only the memory that it is handed.
 #[derive(Drop)]
 pub struct Ring<'a> {
     memory: &'a mut [u8],
@@ -59,13 +60,6 @@ impl Ring<'_> {
         self.count.min(self.capacity())
     }
 
-    /// How many more slots the memory has place for.
-    fn free(&self) -> usize
-        ensures { result ≡ room_in self.now }
-    {
-        self.capacity() - self.waiting()
-    }
-
     /// The place that is `i` behind the first slot, going round at the end of the memory.
     fn place(&self, i: usize) -> usize
         requires { i < capacity self.now.memory.now }
@@ -84,27 +78,11 @@ impl Ring<'_> {
         if self.memory[at] != FRAME {
             return Slot::Mark;
         }
-        let mut bytes = [0; 122];
-        bytes.copy_from_slice(&self.memory[at + 1..at + SLOT]);
-        Slot::Frame(Frame { bytes })
-    }
-
-    /// Puts a frame or a mark behind the slots that wait.
-    fn push(&mut self, item: &Outgoing) -> Result<(), Full>
-        ensures answers { PutAnswer kept room_in Unchanged (λ _. Unit {0}) (as_put item.now) result self.old self.new }
-        ensures exact { OnOk result (Pushed (as_slot item.now) self.old self.new) }
-    {
-        if self.free() == 0 {
-            return Err(Full);
-        }
-        let count = self.count;
-        let place = self.place(count);
-        store(self.memory, place, item);
-        self.count = count + 1;
-        Ok(())
+        Slot::Frame(Frame::try_from(&self.memory[at + 1..at + SLOT]).unwrap())
     }
 
     /// Takes the first slot off.
+    // `take` is this, which says what becomes of the ring, and answers besides as every channel does.
     fn pop(&mut self) -> Option<Slot>
         ensures { MatchOption result ((kept self.old ≡ []) × (self.new ≡ self.old)) (λ s. Popped s self.old self.new) }
     {
@@ -146,25 +124,25 @@ impl Channel for Ring<'_> {
     ghost tied = { λ _. Unit {0} };
 
     fn room(&self) -> usize {
-        self.free()
+        self.capacity() - self.waiting()
     }
 
     fn waits(&self) -> bool {
         self.waiting() > 0
     }
 
-    fn put_frame(&mut self, frame: &Frame) -> Result<(), Full>
-        ensures answers { PutAnswer kept room_in Unchanged (λ _. Unit {0}) (a_frame frame.now.bytes) result self.old self.new }
-        ensures exact { OnOk result (Pushed (a_slot_with frame.now) self.old self.new) }
+    fn put(&mut self, item: &Outgoing) -> Result<(), Full>
+        ensures answers { PutAnswer kept room_in Unchanged (λ _. Unit {0}) (as_put item.now) result self.old self.new }
+        ensures exact { OnOk result (Pushed (as_slot item.now) self.old self.new) }
     {
-        self.push(&Outgoing::Frame(*frame))
-    }
-
-    fn put_mark(&mut self) -> Result<(), Full>
-        ensures answers { PutAnswer kept room_in Unchanged (λ _. Unit {0}) a_mark result self.old self.new }
-        ensures exact { OnOk result (Pushed a_mark_slot self.old self.new) }
-    {
-        self.push(&Outgoing::Mark)
+        if self.room() == 0 {
+            return Err(Full);
+        }
+        let count = self.count;
+        let place = self.place(count);
+        store(self.memory, place, item);
+        self.count = count + 1;
+        Ok(())
     }
 
     fn take(&mut self) -> Option<Slot>

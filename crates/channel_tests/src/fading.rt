@@ -6,14 +6,9 @@ use framing::frame::Frame;
 use framing::slot::Slot;
 use std::test::Fail;
 
-/// The first byte of a frame, 100 for a gap and 200 for a mark.
-fn seen(slot: Option<Slot>) -> u8 {
-    match slot {
-        Some(Slot::Frame(frame)) => frame.bytes[0],
-        Some(Slot::Gap) => 100,
-        Some(Slot::Mark) => 200,
-        None => 255,
-    }
+/// A frame filled with this byte.
+fn filled(byte: u8) -> Frame {
+    Frame { bytes: [byte; 122] }
 }
 
 #[test]
@@ -26,20 +21,28 @@ fn through_two_fades(rt: HostRuntime) -> Result<(), Fail> {
     upper.prepare(&[0b1111_0111, 0xFF])?;
     let mut pile = twice_faded(&mut memory, lower, upper);
     assert_eq!(rt; pile.room(), 6);
-    pile.put_frame(&Frame { bytes: [0; 122] })?;
-    pile.put_mark()?;
-    let late = Outgoing::Frame(Frame { bytes: [4; 122] });
+    pile.put(&Outgoing::Frame(filled(0)))?;
+    pile.put(&Outgoing::Mark)?;
+    let late = Outgoing::Frame(filled(4));
     let items = [
-        Outgoing::Frame(Frame { bytes: [1; 122] }),
-        Outgoing::Frame(Frame { bytes: [2; 122] }),
+        Outgoing::Frame(filled(1)),
+        Outgoing::Frame(filled(2)),
         Outgoing::Mark,
         late,
         late,
     ];
     assert_eq!(rt; put_all(&mut pile, &items), 4);
-    for expected in [0, 200, 100, 2, 200, 100, 255] {
-        assert_eq!(rt; seen(pile.take()), expected);
+    for expected in [
+        Slot::Frame(filled(0)),
+        Slot::Mark,
+        Slot::Gap,
+        Slot::Frame(filled(2)),
+        Slot::Mark,
+        Slot::Gap,
+    ] {
+        assert_eq!(rt; pile.take(), Some(expected));
     }
+    assert_eq!(rt; pile.take(), None);
     assert_eq!(rt; pile.room(), 6);
     Ok(())
 }

@@ -1,5 +1,6 @@
 use channel::channel::Channel;
 use channel::ring::Ring;
+use channel::sending::Outgoing;
 use framing::frame::Frame;
 use framing::slot::Slot;
 use std::process::Abort;
@@ -8,41 +9,36 @@ use std::test::Fail;
 /// Puts so many frames, the first filled with the byte `from`, the next with the byte after it and so on.
 fn put_some(ring: &mut Ring, from: u8, count: u8) -> Result<(), Fail> {
     for i in 0..count {
-        ring.put_frame(&Frame {
+        ring.put(&Outgoing::Frame(Frame {
             bytes: [from.wrapping_add(i); 122],
-        })?;
+        }))?;
     }
     Ok(())
 }
 
 /// Takes so many frames, which come as they were put.
-fn take_some(rt: &impl Abort, ring: &mut Ring, from: u8, count: u8) -> Result<(), Fail> {
+fn take_some(rt: &impl Abort, ring: &mut Ring, from: u8, count: u8) {
     for i in 0..count {
         let byte = from.wrapping_add(i);
-        match ring.take() {
-            Some(Slot::Frame(frame)) => assert!(rt;
-                frame.bytes[0] == byte && frame.bytes[121] == byte
-            ),
-            _ => return Err(Fail::new("no frame")),
-        }
+        let filled = Frame { bytes: [byte; 122] };
+        assert_eq!(rt; ring.take(), Some(Slot::Frame(filled)));
     }
-    Ok(())
 }
 
 /// A ring over this memory is filled, drained by half and filled again, so that it goes round, and drained.
 fn goes_round(rt: &impl Abort, memory: &mut [u8], capacity: u8) -> Result<(), Fail> {
     let mut ring = Ring::new(memory);
-    assert_eq!(rt; ring.room(), capacity as usize);
+    assert_eq!(rt; ring.room(), usize::from(capacity));
     assert!(rt; !ring.waits());
     let half = capacity / 2;
     for _ in 0..3 {
         put_some(&mut ring, 0, capacity)?;
-        assert!(rt; ring.put_mark().is_err());
-        take_some(rt, &mut ring, 0, half)?;
-        assert_eq!(rt; ring.room(), half as usize);
+        assert!(rt; ring.put(&Outgoing::Mark).is_err());
+        take_some(rt, &mut ring, 0, half);
+        assert_eq!(rt; ring.room(), usize::from(half));
         put_some(&mut ring, capacity, half)?;
         assert_eq!(rt; ring.room(), 0);
-        take_some(rt, &mut ring, half, capacity)?;
+        take_some(rt, &mut ring, half, capacity);
         assert!(rt; ring.take().is_none());
     }
     Ok(())
@@ -65,7 +61,7 @@ fn at_every_capacity(rt: HostRuntime) -> Result<(), Fail> {
         let mut memory = [0xA5; 620];
         assert!(rt; length <= 615);
         goes_round(&rt, &mut memory[0..length], capacity)?;
-        let spare = 123 * capacity as usize;
+        let spare = 123 * usize::from(capacity);
         assert!(rt; spare <= 615);
         assert_eq!(rt; memory[spare], 0xA5, "past the last whole slot");
     }

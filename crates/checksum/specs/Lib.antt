@@ -8,3 +8,4 @@ pub mod Bits
 pub mod Step
 pub mod Bytewise
 pub mod NoChecksumChecksumLemmas
+pub mod Choosing

@@ -14,7 +14,12 @@ pub trait Checksum {
     /// How many bits a stretch may have within which every change is detected.
     const REACH: usize;
 
-    // The meaning: the two constants, and the value of every string. It takes no `Self`: a value depends on the string alone.
+    // The two constants, as contracts name them.
+    ghost WIDTH: { ℕ };
+
+    ghost REACH: { ℕ };
+
+    // The meaning: the width and the reach, and the value of every string. It takes no `Self`: a value depends on the string alone.
     ghost width: { ℕ };
 
     ghost reach: { ℕ };
@@ -23,13 +28,21 @@ pub trait Checksum {
 
     /// `WIDTH`, for code that is to know that it is the width of the values.
     fn value_len(&self) -> usize
-        ensures { result ≡ width };
+        ensures { result ≡ width }
+    {
+        Self::WIDTH
+    }
 
     /// `REACH`, for code that is to know that it is the reach of the law.
     fn burst_len(&self) -> usize
-        ensures { result ≡ reach };
+        ensures { result ≡ reach }
+    {
+        Self::REACH
+    }
 
     /// The value of a message, in the first `WIDTH` bytes; the others are 0.
+    // An array and not a vector of a fixed capacity, since who knows the checksum takes the bytes out by a pattern, as in
+    // `let [high, low, _, _] = Crc16.value_of(message)`. An associated constant can be no length of an array.
     fn value_of(&self, message: &[u8]) -> [u8; 4]
         ensures front { take width result ≡ value message.now }
         ensures rest { drop width result ≡ replicate (4 - width) 0 };
@@ -39,16 +52,14 @@ pub trait Checksum {
         ensures exactly { Decides result (value message.now ≡ received.now) }
         ensures detects { (s : List ℕ) → ChangedInOneStretch reach (bits (s ++ value s)) (bits (message.now ++ received.now)) → result ≡ false }
     {
-        let width = self.value_len();
-        if received.len() != width {
-            return false;
-        }
-        let computed = self.value_of(message);
-        let expected = &computed[0..width];
-        *expected == *received
+        &self.value_of(message)[..self.value_len()] == received
     }
 
     // What every checksum owes, and code over any checksum may use.
+    ghost width_told: { WIDTH ≡ width };
+
+    ghost reach_told: { REACH ≡ reach };
+
     ghost narrow: { width ≤ 4 };
 
     ghost sized: { (s : List ℕ) → length (value s) ≡ width };

@@ -1,16 +1,16 @@
-ghost use Rattle.std.specs.Prelude.{◌≡◌, List, [], ◌∷◌, ◌++◌, length, codes};
+ghost use Rattle.std.specs.Prelude.{◌≡◌, [], ◌∷◌, ◌++◌, codes};
 ghost use Rattle.checksum.specs.Crc16.{crc16, feed, register};
 ghost use Rattle.checksum.specs.Detection.{Detects};
 ghost use Rattle.checksum.specs.Stretch.{ChangedInOneStretch, bits, byte_bits};
 ghost use Rattle.checksum.specs.Detect.{crc16_bytes, crc16_detects};
-ghost use Rattle.std.proofs.Common.{rules};
+ghost use Rattle.std.proofs.Common.{refl, rules};
 
 use crate::checksum::Checksum;
 use crate::table;
 
 /// CRC-16 with the generator x^16 + x^12 + x^5 + 1. The register starts at 0xFFFF, each byte enters highest bit first,
 /// nothing is inverted, and the value is the register's high byte and then its low one.
-#[derive(Clone, Copy)]
+#[derive(Clone, Copy, PartialEq, Eq, Debug)]
 pub struct Crc16;
 
 impl Checksum for Crc16 {
@@ -18,11 +18,19 @@ impl Checksum for Crc16 {
 
     const REACH: usize = 16;
 
+    ghost WIDTH = { 2 };
+
+    ghost REACH = { 16 };
+
     ghost width = { 2 };
 
     ghost reach = { 16 };
 
     ghost value = { crc16 };
+
+    ghost width_told = { refl };
+
+    ghost reach_told = { refl };
 
     ghost narrow = { Prim.search rules };
 
@@ -31,14 +39,6 @@ impl Checksum for Crc16 {
     ghost bytes = { crc16_bytes };
 
     ghost detects = { crc16_detects };
-
-    fn value_len(&self) -> usize {
-        Self::WIDTH
-    }
-
-    fn burst_len(&self) -> usize {
-        Self::REACH
-    }
 
     fn value_of(&self, message: &[u8]) -> [u8; 4] {
         let [high, low] = register_of(message).to_be_bytes();
@@ -67,6 +67,7 @@ impl Crc16 {
 }
 
 /// The message whose value catalogues print.
+// This and the next are functions and no constants, since a function's contract says what the value is.
 fn digits() -> [u8; 9]
     ensures { result ≡ codes "123456789" }
 {
@@ -86,8 +87,7 @@ fn register_of(message: &[u8]) -> u16
 {
     let mut state = 0xffff;
     let mut rest = message;
-    while rest.len() >= 8 {
-        let (block, later) = rest.split_at(8);
+    while let Some((block, later)) = rest.split_first_chunk() {
         state = after_block(state, block);
         rest = later;
     }
@@ -99,12 +99,11 @@ fn register_of(message: &[u8]) -> u16
 
 /// The register after eight more bytes. What each of them adds is looked up for as many zero bytes as follow it, and the
 /// register's own two bytes are added to the first two, since that is where they fall out.
-fn after_block(state: u16, block: &[u8]) -> u16
-    requires { length block.now ≡ 8 }
+// Written out and no loop: two of the eight terms differ, and none waits for another.
+fn after_block(state: u16, block: &[u8; 8]) -> u16
     ensures { result ≡ feed state (bits block.now) }
 {
-    let high = (state >> 8) as u8;
-    let low = (state & 0xff) as u8;
+    let [high, low] = state.to_be_bytes();
     table::entry(0, block[7])
         ^ table::entry(1, block[6])
         ^ table::entry(2, block[5])
@@ -119,5 +118,6 @@ fn after_block(state: u16, block: &[u8]) -> u16
 fn after_byte(state: u16, byte: u8) -> u16
     ensures { result ≡ feed state (byte_bits byte) }
 {
-    (state << 8) ^ table::entry(0, (state >> 8) as u8 ^ byte)
+    let [high, _] = state.to_be_bytes();
+    (state << 8) ^ table::entry(0, high ^ byte)
 }

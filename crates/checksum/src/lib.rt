@@ -2,6 +2,7 @@
 #![tactic(auto)]
 
 pub mod checksum;
+pub mod choice;
 pub mod crc16;
 pub mod none;
 mod table;

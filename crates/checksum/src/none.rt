@@ -1,5 +1,5 @@
 ghost use Rattle.std.specs.Prelude.{◌≡◌, [], ◌∷◌, if◌then◌else◌};
-ghost use Rattle.std.proofs.Common.{sym, ◌∙◌, arith, rules};
+ghost use Rattle.std.proofs.Common.{refl, sym, ◌∙◌, arith, rules};
 ghost use Rattle.checksum.specs.Detection.{FitsEverythingDetectsNothing};
 ghost use Rattle.checksum.specs.Stretch.{ChangedInOneStretch, bits};
 ghost use Rattle.checksum.specs.NoChecksumChecksumLemmas.{empty};
@@ -7,7 +7,7 @@ ghost use Rattle.checksum.specs.NoChecksumChecksumLemmas.{empty};
 use crate::checksum::Checksum;
 
 /// No checksum: it has no bytes, and detects nothing.
-#[derive(Clone, Copy)]
+#[derive(Clone, Copy, PartialEq, Eq, Debug)]
 pub struct NoChecksum;
 
 impl Checksum for NoChecksum {
@@ -15,11 +15,19 @@ impl Checksum for NoChecksum {
 
     const REACH: usize = 0;
 
+    ghost WIDTH = { 0 };
+
+    ghost REACH = { 0 };
+
     ghost width = { 0 };
 
     ghost reach = { 0 };
 
     ghost value = { λ _. [] };
+
+    ghost width_told = { refl };
+
+    ghost reach_told = { refl };
 
     ghost narrow = { Prim.search rules };
 
@@ -28,14 +36,6 @@ impl Checksum for NoChecksum {
     ghost bytes = { Prim.search rules };
 
     ghost detects = { λ s t v u e. u.differ (empty u.was (omega arith) ∙ sym (empty u.is (omega arith))) };
-
-    fn value_len(&self) -> usize {
-        Self::WIDTH
-    }
-
-    fn burst_len(&self) -> usize {
-        Self::REACH
-    }
 
     fn value_of(&self, _message: &[u8]) -> [u8; 4] {
         [0; 4]

@@ -7,7 +7,7 @@ ghost use Rattle.std.specs.List.{range_with_len};
 pub fn entry(later: usize, byte: u8) -> u16
     ensures { result ≡ tabled (later % 8) byte }
 {
-    tables()[later % 8][byte as usize]
+    tables()[later % 8][usize::from(byte)]
 }
 
 /// One table for each number of later zero bytes, from 0 to 7.

@@ -1,35 +1,40 @@
 -- Judging header by header.
-use Rattle.std.proofs.Common.{◌≡◌, ℕ, ◌+◌, ◌-◌, ◌<◌, ◌≤◌, List, length, get_or, take, drop, Option, sym, ap, ◌∙◌, arith}
-use Rattle.std.proofs.lemmas.List.{take_rest, drop_all}
+use Rattle.std.proofs.Common.{◌≡◌, ℕ, ◌+◌, ◌<◌, ◌≤◌, min, ◌⊎◌, List, ◌∷◌, length, drop, Option, None, sym, ap, ap₂, ◌∙◌, inl, inr, arith}
+use Rattle.std.proofs.lemmas.List.{drop_all}
+use Rattle.std.proofs.lemmas.Bool.{cases_lt, cases_eq}
 use Rattle.framing.specs.Header.{count_of, Header, headers_from}
-use Rattle.framing.specs.Judging.{first_no, questions, judgment_of, after_first, lawful}
-use Rattle.framing.proofs.Walks.{next_header}
+use Rattle.framing.specs.Judging.{first_no, questions, judgment_of, after_first}
+use Rattle.framing.proofs.Walks.{past_body}
+use Rattle.framing.proofs.Rendered.{asked_body}
 
--- the header at an index, as the code reads it
-abbrev pub header_at : ℕ → List ℕ → Header
-header_at at frame =
-    record { place = at + 1; byte = get_or frame at 0; following = take (122 - (at + 1)) (drop (at + 1) frame) }
+-- No question about the first header is answered no: what stands behind its body decides.
+pub judged_on : (width : ℕ) (gathered : Option ℕ) (place next byte body : ℕ) (following : List ℕ)
+    → body ≡ min (count_of byte) (length following) → next ≡ place + 1 + body
+    → None ≡ first_no (questions width gathered (record { place = place; byte = byte; following = following }))
+    → (judgment_of width gathered (headers_from next 0 (drop body following))).verdict ≡ (judgment_of width gathered (headers_from place 0 (byte ∷ following))).verdict
+judged_on width gathered place next byte body following clipped goes_on none =
+    ap (λ hs. (judgment_of width gathered hs).verdict) (behind (cases_lt (length following) (count_of byte)) ∙ sym (past_body (place + 1) (count_of byte) following))
+    ∙ ap (λ a. (after_first a h (judgment_of width gathered (headers_from (place + 1) (count_of byte) following))).verdict) none
+  where
+    h : Header
+    h = record { place = place; byte = byte; following = following }
 
-rest_whole : (frame : List ℕ) (at : ℕ) → length frame ≡ 122 → take (122 - at) (drop at frame) ≡ drop at frame
-rest_whole frame at whole = ap (λ n. take (n - at) (drop at frame)) (sym whole) ∙ take_rest frame at
+    behind : (length following < count_of byte) ⊎ (count_of byte ≤ length following)
+        → headers_from next 0 (drop body following) ≡ headers_from (place + 1 + count_of byte) 0 (drop (count_of byte) following)
+    behind (inl over) =
+        let p : length following ≤ count_of byte = omega arith in
+        let q : length following ≤ body = omega arith in
+        ap (λ r. headers_from next 0 r) (drop_all body following q)
+        ∙ sym (ap (λ r. headers_from (place + 1 + count_of byte) 0 r) (drop_all (count_of byte) following p))
+    behind (inr fits) = let whole : body ≡ count_of byte = omega arith in ap₂ (λ p k. headers_from p 0 (drop k following)) (omega arith) whole
 
--- The judgment of what stands at an index: of its header, and then of what stands behind the body.
-pub judged_at : (width : ℕ) (gathered : Option ℕ) (frame : List ℕ) (at : ℕ) (answer : Option ℕ) → length frame ≡ 122 → at < 122
-    → answer ≡ first_no (questions width gathered (header_at at frame))
-    → (judgment_of width gathered (headers_from (at + 1) 0 (drop at frame))).verdict
-    ≡ (after_first answer (header_at at frame)
-    (judgment_of width gathered (headers_from (at + (1 + count_of (get_or frame at 0)) + 1) 0 (drop (at + (1 + count_of (get_or frame at 0))) frame)))).verdict
-judged_at width gathered frame at answer whole here asked =
-    let n : ℕ = count_of (get_or frame at 0) in
-    let inside : at < length frame = omega arith in
-    let next : ℕ → List Header = λ k. headers_from (k + 1) 0 (drop k frame) in
-    let first : List ℕ → Header = λ r. record { place = at + 1; byte = get_or frame at 0; following = r } in
-    ap (λ hs. (judgment_of width gathered hs).verdict) (next_header frame at inside)
-    ∙ ap (λ r. (after_first (first_no (questions width gathered (first r))) (first r) (judgment_of width gathered (next (at + 1 + n)))).verdict)
-    (sym (rest_whole frame (at + 1) whole))
-    ∙ ap (λ k. (after_first (first_no (questions width gathered (header_at at frame))) (header_at at frame) (judgment_of width gathered (next k))).verdict) (omega arith)
-    ∙ ap (λ a. (after_first a (header_at at frame) (judgment_of width gathered (next (at + (1 + n))))).verdict) (sym asked)
-
-pub judged_all : (width : ℕ) (gathered : Option ℕ) (frame : List ℕ) (at : ℕ) → length frame ≤ at
-    → (judgment_of width gathered (headers_from (at + 1) 0 (drop at frame))).verdict ≡ lawful
-judged_all width gathered frame at past = ap (λ r. (judgment_of width gathered (headers_from (at + 1) 0 r)).verdict) (drop_all at frame past)
+-- ... and where it is no padding, its body lies in the frame.
+pub body_inside : (width : ℕ) (gathered : Option ℕ) (place byte : ℕ) (following : List ℕ)
+    → place + length following ≡ 122 → (count_of byte ≡ 127 → ⊥)
+    → None ≡ first_no (questions width gathered (record { place = place; byte = byte; following = following }))
+    → count_of byte ≤ length following
+body_inside width gathered place byte following whole no_padding none = go (cases_eq (count_of byte) 0)
+  where
+    go : (count_of byte ≡ 0) ⊎ (count_of byte ≡ 0 → ⊥) → count_of byte ≤ length following
+    go (inl z) = omega arith
+    go (inr nz) = let ends = asked_body width gathered (record { place = place; byte = byte; following = following }) (sym none) no_padding nz in omega (arith, ends)

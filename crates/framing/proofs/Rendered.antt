@@ -1,13 +1,10 @@
 -- The fragments of a lawful frame, rendered again, are the frame.
-use Rattle.std.proofs.Common.{◌≡◌, ℕ, zero, suc, ◌+◌, ◌-◌, ◌/◌, ◌<◌, ◌≤◌, Bool, true, false, cond, ◌||◌, eqb, leb, ◌⊎◌, List, [], ◌∷◌, ◌++◌, map, length, take, replicate, IfOk, Some, None, Ok, Err, Option, Result, sym, refl, ap, ◌∙◌, ap₂, inl, inr, arith}
+use Rattle.std.proofs.Common.{◌≡◌, ℕ, zero, suc, ◌+◌, ◌-◌, ◌/◌, ◌<◌, ◌≤◌, Bool, true, false, cond, ◌||◌, eqb, leb, ◌⊎◌, List, [], ◌∷◌, ◌++◌, map, length, take, replicate, Some, None, Option, sym, refl, ap, ◌∙◌, ap₂, inl, inr, arith}
 use Rattle.std.specs.List.{flat_map}
 use Rattle.std.proofs.lemmas.List.{append-nil, append_cancel_left, take_all, length-take-le}
 use Rattle.std.proofs.lemmas.Bool.{cases_eq, cond-true, cond-false, eq-eqb, ne_eqb, eqb-true, eqb-false, leb-true, ltb-true, and_parts, not-true, both_ways}
 use Rattle.framing.specs.Header.{count_of, last_of, byte_of, Header, headers_from}
-use Rattle.framing.specs.Giving.{gives, refuses, of_verdict, asked, answer}
-use Rattle.framing.specs.declared.fragments.Fragments.{Fragments}
-use Rattle.framing.specs.declared.fragments.FragmentsFault.{FragmentsFault}
-use Rattle.framing.specs.Judging.{Verdict, lawful, torn, judgment, Question, ask, first_no, all_zero, questions, padding_questions, notional_questions, body_questions, judgment_of, after_first, Judgment, is_lawful}
+use Rattle.framing.specs.Judging.{lawful, judgment, Question, ask, first_no, all_zero, questions, padding_questions, notional_questions, body_questions, judgment_of, after_first, Judgment, is_lawful}
 use Rattle.framing.specs.Fragments.{fragment_of, fragments, rendered, Bytes}
 use Rattle.framing.proofs.Coming.{padding_is, notional_is, body_is}
 
@@ -41,7 +38,7 @@ pub record PaddingAsked (h : Header) : Type 0 where
   pub zeros : all_zero h.following ≡ true
 
 -- question 11, and then those of the kind
-kind_asked : (width : ℕ) (gathered : Option ℕ) (h : Header) (qs : List Question) → first_no (questions width gathered h) ≡ None
+pub kind_asked : (width : ℕ) (gathered : Option ℕ) (h : Header) (qs : List Question) → first_no (questions width gathered h) ≡ None
     → cond (eqb (count_of h.byte) 127) (padding_questions gathered h) (cond (eqb (count_of h.byte) 0) (notional_questions h) (body_questions width gathered h)) ≡ qs
     → AllYes qs
 kind_asked width gathered h qs none kind =
@@ -131,24 +128,7 @@ rendered_from width place zero (h ∷ rest) ends fits good =
     one_again width place h rest ends (fits 0 (omega arith)) first.0
     (rendered_from width (place + 1) (count_of h) rest (omega arith) (tail_bytes h rest fits) first.1)
 
--- 4. Where the fragments are given, the frame is lawful.
+-- 4. A lawful frame, whole.
 
-given_where_lawful : (bytes : List ℕ) → asked bytes ≡ gives → (length bytes ≡ 122) × (is_lawful (judgment 0 None bytes).verdict ≡ true)
-given_where_lawful bytes e = go (cases_eq (length bytes) 122)
-  where
-    good : (v : Verdict) → of_verdict v ≡ gives → is_lawful v ≡ true
-    good lawful e' = refl
-    good (torn q p) e' = let z : ◌≡◌ {A = ℕ} 0 1 = cc in let no_way : ⊥ = omega arith in absurd no_way
-
-    go : (length bytes ≡ 122) ⊎ (length bytes ≡ 122 → ⊥) → (length bytes ≡ 122) × (is_lawful (judgment 0 None bytes).verdict ≡ true)
-    go (inl whole) =
-        (whole, good (judgment 0 None bytes).verdict (sym (cond-true (eqb (length bytes) 122) (of_verdict (judgment 0 None bytes).verdict) (refuses 10) (eq-eqb (length bytes) 122 whole)) ∙ e))
-    go (inr other) =
-        let bad : refuses 10 ≡ gives = sym (cond-false (eqb (length bytes) 122) (of_verdict (judgment 0 None bytes).verdict) (refuses 10) (ne_eqb (length bytes) 122 other)) ∙ e in
-        let z : ◌≡◌ {A = ℕ} 0 1 = cc in let no_way : ⊥ = omega arith in absurd no_way
-
-pub frame_again : (r : Result Fragments FragmentsFault) (bytes : List ℕ) → Bytes bytes → answer r ≡ asked bytes → IfOk r (λ _. flat_map rendered (fragments bytes) ≡ bytes)
-frame_again (Ok f) bytes fits e =
-    let facts = given_where_lawful bytes (sym e) in
-    rendered_from 0 1 0 bytes (omega (arith, facts.0)) fits facts.1
-frame_again (Err f) bytes fits e = tt
+pub frame_again : (bytes : List ℕ) → Bytes bytes → length bytes ≡ 122 → lawful ≡ (judgment 0 None bytes).verdict → flat_map rendered (fragments bytes) ≡ bytes
+frame_again bytes fits whole good = rendered_from 0 1 0 bytes (omega arith) fits (sym (ap is_lawful good))

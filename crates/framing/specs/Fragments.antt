@@ -1,6 +1,6 @@
 -- The fragments of a frame, and the bytes of a fragment.
-use Rattle.std.specs.Prelude.{ℕ, ◌-◌, ◌<◌, Bool, cond, List, [], ◌∷◌, map, length, take, replicate, ◌==◌, slice_index}
-use Rattle.framing.specs.Header.{count_of, last_of, byte_of, Header, headers}
+use Rattle.std.specs.Prelude.{ℕ, ◌+◌, ◌-◌, ◌<◌, Bool, cond, List, [], ◌∷◌, map, length, take, drop, replicate, ◌==◌, slice_index}
+use Rattle.framing.specs.Header.{count_of, last_of, byte_of, Header, headers, headers_from}
 
 -- A fragment, with its header's place: a body, of which the bytes are known and the last mark, a notional packet, or
 -- padding.
@@ -19,6 +19,10 @@ fragment_of h =
 -- The fragments of a frame, in order.
 abbrev pub fragments : List ℕ → List Fragment
 fragments frame = map fragment_of (headers frame)
+
+-- The fragments of a frame from an index on, where a header stands.
+abbrev pub fragments_from : List ℕ → ℕ → List Fragment
+fragments_from frame at = map fragment_of (headers_from (at + 1) 0 (drop at frame))
 
 -- The bytes of a fragment. Padding fills the frame with zeros, and its header is 0x7F; a notional packet is 0x80.
 abbrev pub rendered : Fragment → List ℕ

@@ -1,6 +1,5 @@
 -- Giving the fragments of a frame one at a time.
-use Rattle.std.specs.Prelude.{◌≡◌, ℕ, ◌+◌, cond, List, [], ◌∷◌, map, length, drop, Some, None, Ok, Err, Option, Result, ◌==◌}
-use Rattle.framing.specs.Header.{headers_from}
+use Rattle.std.specs.Prelude.{◌≡◌, ℕ, ◌<◌, ◌≤◌, cond, List, [], ◌∷◌, length, Some, None, Ok, Err, Option, Result, ◌==◌}
 use Rattle.framing.specs.Judging.{judgment, Verdict, lawful, torn, fault_number}
 use Rattle.framing.specs.Fragments as rules
 use Rattle.framing.specs.declared.fragments.Fragments.{Fragments}
@@ -35,7 +34,14 @@ answer (Err (Torn t)) = is_torn (fault_number t.fault) t.at
 
 -- The fragments still to come.
 abbrev pub coming : Fragments → List rules.Fragment
-coming f = map rules.fragment_of (headers_from (f.at + 1) 0 (drop f.at f.bytes.now))
+coming f = rules.fragments_from f.bytes.now f.at
+
+-- What stands at an index: nothing behind the last byte; else the first of the fragments from there on, and the index at which
+-- the others begin.
+abbrev pub FoundAt : List ℕ → ℕ → Option (Fragment × ℕ) → Type 0
+FoundAt bytes at None = (length bytes ≤ at) × (rules.fragments_from bytes at ≡ [])
+FoundAt bytes at (Some (fragment, next)) =
+    (rules.fragments_from bytes at ≡ shown fragment ∷ rules.fragments_from bytes next) × ((at < next) × (next ≤ length bytes))
 
 -- One fragment is asked for: the first of those to come is given and the others are still to come, or, where none is
 -- left, nothing is given and nothing changes. The frame stays.

@@ -1,5 +1,6 @@
 pub mod Header
 pub mod Judging
+pub mod Placing
 pub mod Fragments
 pub mod Giving
 pub mod Words

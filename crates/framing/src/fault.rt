@@ -1,28 +1,28 @@
-/// Why a frame is torn: one case for each question that can be answered no.
-#[derive(Clone, Copy)]
+/// Why a frame is torn: each fault by the number of its question.
+#[derive(Clone, Copy, PartialEq, Eq, Debug)]
 pub enum FrameFault {
     /// A count of 122 to 126, which means nothing.
-    CountOutOfRange,
+    CountOutOfRange = 11,
     /// A padding header with the last mark.
-    PaddingMarkedLast,
+    PaddingMarkedLast = 12,
     /// A padding header in byte 122, with no byte behind it.
-    PaddingInLastByte,
+    PaddingInLastByte = 13,
     /// A byte of padding that is not 0.
-    PaddingNotZero,
+    PaddingNotZero = 14,
     /// Padding at the beginning of a frame, where a packet is still open.
-    PaddingInsidePacket,
+    PaddingInsidePacket = 15,
     /// An empty body that is not the byte 0x80 at the end of the frame.
-    MisplacedNotional,
+    MisplacedNotional = 16,
     /// A body that runs past the end of the frame.
-    BodyPastEnd,
+    BodyPastEnd = 17,
     /// A body without the last mark that ends before the frame does.
-    BodyEndsEarly,
+    BodyEndsEarly = 18,
     /// A body that makes the open packet longer than any packet with its checksum.
-    PacketTooLong,
+    PacketTooLong = 19,
 }
 
 /// A frame that is not lawful: why, and the place of the header at fault, counted from 1.
-#[derive(Clone, Copy)]
+#[derive(Clone, Copy, PartialEq, Eq, Debug)]
 pub struct Torn {
     pub fault: FrameFault,
     pub at: usize,

@@ -6,7 +6,8 @@ pub const PADDING: u8 = 127;
 
 /// The header of a fragment, taken apart: the number of body bytes, and the last mark, which is set on the final fragment
 /// of a packet.
-#[derive(Clone, Copy)]
+// Calls by name and no `From`: the two directions are told apart where they are called, and a count above 127 loses a bit in a byte.
+#[derive(Clone, Copy, PartialEq, Eq, Debug)]
 pub struct FragmentHeader {
     pub count: u8,
     pub last: bool,

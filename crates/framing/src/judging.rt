@@ -1,6 +1,7 @@
-ghost use Rattle.std.specs.Prelude.{◌≡◌, ◌+◌, ◌≤◌, length};
-ghost use Rattle.framing.specs.Header.{byte_of};
+ghost use Rattle.std.specs.Prelude.{◌≡◌, ◌≤◌};
+ghost use Rattle.framing.specs.Header.{count_of, last_of};
 ghost use Rattle.framing.specs.Judging.{all_zero, first_no, questions, padding_questions, notional_questions, body_questions, fault_numbers, judgment, verdict_of};
+ghost use Rattle.framing.specs.Placing.{placed};
 
 use crate::fault::{FrameFault, Torn};
 use crate::frame::Frame;
@@ -13,86 +14,92 @@ pub const PACKET_MAX: usize = 2044;
 fn is_zero(bytes: &[u8]) -> bool
     ensures { result ≡ all_zero bytes.now }
 {
-    let mut any = 0;
-    for b in bytes {
-        any |= *b;
-    }
-    any == 0
+    bytes.iter().fold(0, |any, b| any | *b) == 0
 }
 
-/// The first question about a padding header at `at`, counted from 1, that is answered no.
-fn padding_fault(byte: u8, at: usize, following: &[u8], gathered: Option<u16>) -> Option<FrameFault>
-    ensures { fault_numbers result ≡ first_no (padding_questions gathered (record { place = at; byte = byte; following = following.now })) }
-{
-    if FragmentHeader::from_byte(byte).last {
-        return Some(FrameFault::PaddingMarkedLast);
-    }
-    if at >= 122 {
-        return Some(FrameFault::PaddingInLastByte);
-    }
-    if !is_zero(following) {
-        return Some(FrameFault::PaddingNotZero);
-    }
-    match gathered {
-        Some(_) if at == 1 => Some(FrameFault::PaddingInsidePacket),
-        _ => None,
-    }
-}
-
-/// The first question about an empty body at `at` that is answered no.
-fn notional_fault(byte: u8, at: usize, following: &[u8]) -> Option<FrameFault>
-    ensures { fault_numbers result ≡ first_no (notional_questions (record { place = at; byte = byte; following = following.now })) }
-{
-    if FragmentHeader::from_byte(byte).last && at == 122 {
-        None
-    } else {
-        Some(FrameFault::MisplacedNotional)
-    }
-}
-
-/// The first question about a body whose header is at `at` that is answered no.
-fn body_fault(
+/// A header where it stands.
+#[derive(Clone, Copy)]
+struct Placed<'a> {
+    /// Its place in the frame, counted from 1.
+    // What follows tells it too, but then each question would ask that this be part of a frame.
+    place: usize,
     byte: u8,
-    at: usize,
-    following: &[u8],
-    gathered: Option<u16>,
-    width: u8,
-) -> Option<FrameFault>
-    requires { at ≤ 122 }
-    ensures { fault_numbers result ≡ first_no (body_questions width gathered (record { place = at; byte = byte; following = following.now })) }
-{
-    let header = FragmentHeader::from_byte(byte);
-    let count = header.count as usize;
-    if at + count > 122 {
-        return Some(FrameFault::BodyPastEnd);
+    /// All bytes of the frame behind it.
+    following: &'a [u8],
+}
+
+impl Placed<'_> {
+    /// The byte taken apart.
+    fn header(&self) -> FragmentHeader
+        ensures { (result.count ≡ count_of self.now.byte) × (result.last ≡ last_of self.now.byte) }
+    {
+        FragmentHeader::from_byte(self.byte)
     }
-    if !header.last && at + count != 122 {
-        return Some(FrameFault::BodyEndsEarly);
-    }
-    match gathered {
-        Some(n) if at == 1 && n as usize + count > PACKET_MAX + width as usize => {
-            Some(FrameFault::PacketTooLong)
+
+    /// The first question about this header that is answered no.
+    // The two that a reader knows are handed in one by one: of the three kinds of header one asks about both, one about neither.
+    fn fault(&self, gathered: Option<u16>, width: u8) -> Option<FrameFault>
+        requires { self.now.place ≤ 122 }
+        ensures { fault_numbers result ≡ first_no (questions width gathered (placed self.now)) }
+    {
+        match self.header().count {
+            PADDING => self.padding_fault(gathered),
+            0 => self.notional_fault(),
+            122..=126 => Some(FrameFault::CountOutOfRange),
+            _ => self.body_fault(gathered, width),
         }
-        _ => None,
     }
-}
 
-/// The first question about the header at `at` that is answered no.
-fn header_fault(
-    byte: u8,
-    at: usize,
-    following: &[u8],
-    gathered: Option<u16>,
-    width: u8,
-) -> Option<FrameFault>
-    requires { at ≤ 122 }
-    ensures { fault_numbers result ≡ first_no (questions width gathered (record { place = at; byte = byte; following = following.now })) }
-{
-    match FragmentHeader::from_byte(byte).count {
-        PADDING => padding_fault(byte, at, following, gathered),
-        0 => notional_fault(byte, at, following),
-        122..=126 => Some(FrameFault::CountOutOfRange),
-        _ => body_fault(byte, at, following, gathered, width),
+    /// The first question about a padding header that is answered no.
+    fn padding_fault(&self, gathered: Option<u16>) -> Option<FrameFault>
+        ensures { fault_numbers result ≡ first_no (padding_questions gathered (placed self.now)) }
+    {
+        if self.header().last {
+            return Some(FrameFault::PaddingMarkedLast);
+        }
+        if self.place >= 122 {
+            return Some(FrameFault::PaddingInLastByte);
+        }
+        if !is_zero(self.following) {
+            return Some(FrameFault::PaddingNotZero);
+        }
+        match gathered {
+            Some(_) if self.place == 1 => Some(FrameFault::PaddingInsidePacket),
+            _ => None,
+        }
+    }
+
+    /// The first question about an empty body that is answered no.
+    fn notional_fault(&self) -> Option<FrameFault>
+        ensures { fault_numbers result ≡ first_no (notional_questions (placed self.now)) }
+    {
+        if self.header().last && self.place == 122 {
+            None
+        } else {
+            Some(FrameFault::MisplacedNotional)
+        }
+    }
+
+    /// The first question about the header of a body that is answered no.
+    fn body_fault(&self, gathered: Option<u16>, width: u8) -> Option<FrameFault>
+        requires { self.now.place ≤ 122 }
+        ensures { fault_numbers result ≡ first_no (body_questions width gathered (placed self.now)) }
+    {
+        let header = self.header();
+        let at = self.place;
+        let count = usize::from(header.count);
+        if at + count > 122 {
+            return Some(FrameFault::BodyPastEnd);
+        }
+        if !header.last && at + count != 122 {
+            return Some(FrameFault::BodyEndsEarly);
+        }
+        match gathered {
+            Some(n) if at == 1 && usize::from(n) + count > PACKET_MAX + usize::from(width) => {
+                Some(FrameFault::PacketTooLong)
+            }
+            _ => None,
+        }
     }
 }
 
@@ -101,14 +108,23 @@ fn header_fault(
 pub fn judge(frame: &Frame, gathered: Option<u16>, width: u8) -> Result<(), Torn>
     ensures { verdict_of result ≡ (judgment width gathered frame.now.bytes).verdict }
 {
-    let mut at = 0;
-    while at < 122 {
-        let byte = frame.bytes[at];
-        let following = &frame.bytes[at + 1..122];
-        if let Some(fault) = header_fault(byte, at + 1, following, gathered, width) {
-            return Err(Torn { fault, at: at + 1 });
+    let mut rest = &frame.bytes[..];
+    while let Some((byte, following)) = rest.split_first() {
+        let place = 123 - rest.len();
+        let header = Placed {
+            place,
+            byte: *byte,
+            following,
+        };
+        if let Some(fault) = header.fault(gathered, width) {
+            return Err(Torn { fault, at: place });
         }
-        at += 1 + FragmentHeader::from_byte(byte).count as usize;
+        let FragmentHeader { count, .. } = header.header();
+        // Padding is the rest of the frame.
+        if count == PADDING {
+            return Ok(());
+        }
+        rest = &following[usize::from(count)..];
     }
     Ok(())
 }

@@ -10,20 +10,11 @@ impl FrameFault {
     pub fn number(self) -> u8
         ensures { result ≡ fault_number self }
     {
-        match self {
-            FrameFault::CountOutOfRange => 11,
-            FrameFault::PaddingMarkedLast => 12,
-            FrameFault::PaddingInLastByte => 13,
-            FrameFault::PaddingNotZero => 14,
-            FrameFault::PaddingInsidePacket => 15,
-            FrameFault::MisplacedNotional => 16,
-            FrameFault::BodyPastEnd => 17,
-            FrameFault::BodyEndsEarly => 18,
-            FrameFault::PacketTooLong => 19,
-        }
+        self as u8
     }
 
     /// What is wrong, in words.
+    // `Display` writes these; who wants the string itself needs nothing that is written to.
     pub fn words(self) -> &'static str
         ensures { result.now ≡ fault_words self }
     {

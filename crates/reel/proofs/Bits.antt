@@ -1,13 +1,15 @@
 -- Laws of bits and of the bit map.
-use Rattle.std.proofs.Common.{◌≡◌, ℕ, zero, suc, ◌+◌, ◌-◌, ◌*◌, ◌/◌, ◌%◌, ◌^◌, ◌<◌, ◌≤◌, Bool, true, false, cond, eqb, ◌⊎◌, List, [], ◌∷◌, ◌++◌, length, get_or, take, drop, sym, refl, ap, ◌∙◌, ⊎_elim, pow-suc, div-one, arith}
+use Rattle.std.proofs.Common.{◌≡◌, ℕ, zero, suc, ◌+◌, ◌-◌, ◌*◌, ◌/◌, ◌%◌, ◌^◌, ◌<◌, ◌≤◌, Bool, true, false, cond, eqb, ◌⊎◌, List, [], ◌∷◌, ◌++◌, length, get_or, map, sum, take, drop, sym, refl, ap, ◌∙◌, ⊎_elim, pow-suc, div-one, arith}
 use native.Mathlib.Nat.{zero-div}
-use lib.Count.{ones, ones_step, ones-le}
+use lib.Count.{ones, ones_step}
 use lib.Seq.{drop-nil}
 use Rattle.std.proofs.lemmas.Nat.{shr-shr}
 use Rattle.std.proofs.lemmas.List.{append-nil, get_or_append_left, get_or-drop, get_or-take, length-append, length-take, drop_all, drop_at, drop-drop, drop_more}
+use Rattle.std.proofs.lemmas.List.Sums.{sum_by-cons}
 use Rattle.std.proofs.lemmas.Bool.{eq-eqb, ne_eqb, cases_eq}
 use Rattle.std.proofs.lemmas.Bool.Decides.{nat_tests}
 use Rattle.reel.specs.Bits.{bits_of, bits, bit_at, count_of_set_bits, all_clear}
+use Rattle.reel.specs.Block.{Bytes}
 
 pub length_bits_of : (k b : ℕ) → length (bits_of k b) ≡ k
 unfolding bits_of
@@ -44,17 +46,15 @@ ones_bits_of (suc k) b short =
     let all = ones_step b in
     omega arith
 
--- one byte of the map more is counted
-pub set_bits_step : (map : List ℕ) (i : ℕ) → i < length map → get_or map i 0 < 256
-    → count_of_set_bits (bits (drop i map)) ≡ ones (get_or map i 0) + count_of_set_bits (bits (drop (i + 1) map))
+-- the bits that are set in a map are the ones of its bytes
+pub ones_counted : (m : List ℕ) → Bytes m → count_of_set_bits (bits m) ≡ sum (map ones m)
 unfolding bits
-set_bits_step map i within byte =
-    rw (drop_more map i 0 within)
-    (set_bits_append (bits_of 8 (get_or map i 0)) (bits (drop (i + 1) map))
-    ∙ ap (λ (n : ℕ). n + count_of_set_bits (bits (drop (i + 1) map))) (ones_bits_of 8 (get_or map i 0) byte))
-
-pub ones_byte : (b : ℕ) → b < 256 → ones b ≤ 8
-ones_byte b byte = ones-le 8 b byte
+ones_counted [] are = refl
+ones_counted (b ∷ m) are =
+    let one = ones_bits_of 8 b are.0 in
+    let more = ones_counted m are.1 in
+    let all = sum_by-cons (λ (x : ℕ). x) (ones b) (map ones m) in
+    set_bits_append (bits_of 8 b) (bits m) ∙ omega arith
 
 pub set_bits_at_most : (xs : List Bool) → count_of_set_bits xs ≤ length xs
 set_bits_at_most [] = omega arith

@@ -43,6 +43,7 @@ pub record One (b : Block) (long : ℕ) : Type 0 where
   pub both : frame_count (held b) + gap_count (held b) ≡ b.size
   pub frames_fit : frame_count (held b) ≤ long
   pub gaps_fit : gap_count (held b) ≤ 8 * long
+  pub few_slots : b.size ≤ 200
 
 pub one_block : (bytes : List ℕ) (place : ℕ) (b : Block) → refusal bytes ≡ None → Parts bytes place b → One b (block_size bytes)
 one_block bytes place b fine parts =
@@ -57,22 +58,13 @@ one_block bytes place b fine parts =
       both = omega (arith, parts.size);
       frames_fit = omega arith;
       gaps_fit = omega arith;
+      few_slots = omega (arith, parts.size, (lawful bytes fine).sized);
     }
-
--- one block more does not reach past the reel
-pub still_fits : (reel : List ℕ) (s : Blocks) (c : Contents) (b : Block) → Counted reel s c → refusal (ahead s) ≡ None → One b (block_size (ahead s))
-    → c.frames + frame_count (held b) ≤ length reel
-still_fits reel s c b so fine one =
-    let whole = (within (ahead s) (lawful (ahead s) fine)).whole in
-    let rest = length-drop s.passed s.reel.now in
-    let same = ap length so.over in
-    omega (arith, so, one)
 
 -- one block more is counted
 pub counted_more : (reel : List ℕ) (s : Blocks) (c : Contents) (b : Block) (t : Blocks) → Counted reel s c
-    → Next s (Some (Ok b)) t → Reads s (Some (Ok b)) t → (slots frames : ℕ) → slots ≡ b.size → frames ≡ length b.frames.now / 122
-    → Counted reel t (one_more c slots frames)
-counted_more reel s c b t so step reads slots frames slots_are frames_are =
+    → Next s (Some (Ok b)) t → Reads s (Some (Ok b)) t → Counted reel t (one_more c b.size (length b.frames.now / 122))
+counted_more reel s c b t so step reads =
     let one = one_block (ahead s) (s.passed + 1) b step.1 step.2 in
     let tail = reads.2 in
     let whole = (within (ahead s) (lawful (ahead s) step.1)).whole in

@@ -1,26 +1,23 @@
 -- Laws of dealing a block's frames out to its bits.
-use Rattle.std.proofs.Common.{◌≡◌, ℕ, suc, ◌+◌, ◌*◌, ◌/◌, ◌<◌, ◌≤◌, min, Bool, true, false, List, [], ◌∷◌, ◌++◌, map, length, take, drop, is_some, Some, None, sym, refl, ap, ◌∙◌, ap₂, ⊎_elim, arith, take-add}
+use Rattle.std.proofs.Common.{◌≡◌, ℕ, suc, ◌+◌, ◌*◌, ◌/◌, ◌<◌, ◌≤◌, Bool, true, false, List, [], ◌∷◌, ◌++◌, map, length, take, drop, is_some, Some, None, Option, MatchOption, Bor, sym, refl, ap, ◌∙◌, ap₂, arith, take-add}
 use Rattle.std.proofs.ByRecursion.{All-append, All-drop, All-take}
 use Rattle.std.proofs.lemmas.List.{drop_all, drop_at, length-append, length-drop, length-take-le, take_all, take_at}
-use Rattle.std.proofs.lemmas.Bool.{cases_lt}
+use Rattle.std.specs.List.{IsSplitAt}
+use Rattle.std.specs.Option.{unwrap_or}
 use Rattle.reel.specs.Bits.{bits, bit_at, count_of_set_bits}
 use Rattle.reel.specs.Block.{Superframe, Bytes, Frames, frame_bytes, dealt}
 use Rattle.reel.proofs.Bits.{next_bit}
 
--- a part of a list that is cut at its end
-pub take_most : (n : ℕ) (xs : List ℕ) → take (min (length xs) n) xs ≡ take n xs
-take_most n xs =
-    ⊎_elim
-    (λ (long : n < length xs). let e : min (length xs) n ≡ n = omega arith in ap (λ (k : ℕ). take k xs) e)
-    (λ (short : length xs ≤ n). take_all (min (length xs) n) xs (omega arith) ∙ sym (take_all n xs short))
-    (cases_lt n (length xs))
-
-pub drop_most : (n : ℕ) (xs : List ℕ) → drop (min (length xs) n) xs ≡ drop n xs
-drop_most n xs =
-    ⊎_elim
-    (λ (long : n < length xs). let e : min (length xs) n ≡ n = omega arith in ap (λ (k : ℕ). drop k xs) e)
-    (λ (short : length xs ≤ n). drop_all (min (length xs) n) xs (omega arith) ∙ sym (drop_all n xs short))
-    (cases_lt n (length xs))
+-- the first 122 bytes and the others, where there may be fewer
+pub first_frame : (bytes : List ℕ) (whole : Bor (List ℕ) × Bor (List ℕ)) (parts : Option (Bor (List ℕ) × Bor (List ℕ)))
+    → whole.0.now ≡ bytes → whole.1.now ≡ []
+    → MatchOption parts (length bytes < 122) (λ p. IsSplitAt bytes 122 p.0.now p.1.now)
+    → ((unwrap_or parts whole).0.now ≡ take 122 bytes) × ((unwrap_or parts whole).1.now ≡ drop 122 bytes)
+first_frame bytes whole None all none short = (
+  all ∙ sym (take_all 122 bytes (omega arith)),
+  none ∙ sym (drop_all 122 bytes (omega arith)),
+)
+first_frame bytes whole (Some p) all none split = (split.1, split.2)
 
 module _ (map : List ℕ) (n i : ℕ) (frames : List ℕ) where
   abbrev left : ℕ → List ℕ → Superframe

@@ -1,14 +1,12 @@
 -- The laws of the format and its worked examples, put together.
-use Rattle.std.proofs.Common.{◌≡◌, ℕ, ◌+◌, ◌<◌, List, [], ◌∷◌, ◌++◌, map, length, take, drop, Some, None, sum, sym, refl, ap, ◌∙◌, ⊎_elim, arith}
-use lib.Count.{ones}
+use Rattle.std.proofs.Common.{◌≡◌, ℕ, ◌+◌, ◌<◌, List, [], ◌++◌, length, take, drop, Some, None, sym, refl, ap, ◌∙◌, ⊎_elim, arith}
 use Rattle.std.specs.List.{AllByRecursion}
 use Rattle.std.proofs.lemmas.List.{append-nil, drop_at, length-append, length-drop, take_at}
-use Rattle.std.proofs.lemmas.List.Sums.{sum_by-cons}
-use Rattle.reel.specs.Bits.{bits_of, bits, count_of_set_bits}
+use Rattle.reel.specs.Bits.{bits_of, bits}
 use Rattle.reel.specs.Block.{Superframe, Bytes, Fits, block_of, block_size, superframe, refusal}
 use Rattle.reel.specs.Laws.{WrittenRead, ReadWritten, FormatLaws, Examples}
 use Rattle.reel.specs.Reel.{reading_from, reading, reel_of}
-use Rattle.reel.proofs.Bits.{ones_bits_of, set_bits_append}
+use Rattle.reel.proofs.Bits.{ones_counted}
 use Rattle.reel.proofs.Questions.{lawful, within}
 use Rattle.reel.proofs.Reels.{one_reading, told_all, written_reading}
 use Rattle.reel.proofs.Writing.{read_fits, read_written, written_bytes, written_lawful, written_read, written_size}
@@ -33,15 +31,6 @@ a_read_block b are fine =
       fits = read_fits b are fine;
       same = sym (take_at (block_of s) (drop (block_size b) b) (block_size b) long) ∙ ap (λ (xs : List ℕ). take (block_size b) xs) again;
     }
-
-ones_counted : (m : List ℕ) → Bytes m → count_of_set_bits (bits m) ≡ sum (map ones m)
-unfolding bits
-ones_counted [] are = refl
-ones_counted (b ∷ m) are =
-    let one = ones_bits_of 8 b are.0 in
-    let more = ones_counted m are.1 in
-    let all = sum_by-cons (λ (x : ℕ). x) (ones b) (map ones m) in
-    set_bits_append (bits_of 8 b) (bits m) ∙ omega arith
 
 a_lawful_row : (reel : List ℕ) → Bytes reel → (reading reel).stop ≡ None
     → AllByRecursion Fits (reading reel).superframes × (reel ≡ reel_of (reading reel).superframes)

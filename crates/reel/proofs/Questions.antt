@@ -1,8 +1,8 @@
 -- The questions put to a block, answered one after the other.
-use Rattle.std.proofs.Common.{◌≡◌, ℕ, ◌*◌, ◌<◌, ◌≤◌, Bool, true, false, cond, List, length, drop, Some, None, Option, sym, refl, ap, ◌∙◌, arith}
+use Rattle.std.proofs.Common.{◌≡◌, ℕ, ◌≤◌, Bool, true, false, cond, List, length, drop, Some, None, Option, refl, ◌∙◌, arith}
 use Rattle.std.proofs.lemmas.List.{length-take, length-drop}
-use Rattle.std.proofs.lemmas.Bool.{and_parts, and_from, and_left, and_right, cond-true, cond-false, le-leb, lt-leb, leb-true}
-use Rattle.reel.specs.Bits.{bits, size_of_map, count_of_set_bits, all_clear}
+use Rattle.std.proofs.lemmas.Bool.{and_parts, and_from, cond-true, le-leb, leb-true}
+use Rattle.reel.specs.Bits.{bits, size_of_map, all_clear}
 use Rattle.reel.specs.Block.{size, map_part, frames_size, frames_part, behind_map, block_size, has_size, has_map, has_frames, refusal}
 
 -- the three questions, each answered yes
@@ -35,15 +35,6 @@ past_size bytes h = cond-true _ _ _ (yes_size bytes h)
 
 pub past_map : (bytes : List ℕ) → Sized bytes → Mapped bytes → refusal bytes ≡ cond (has_frames bytes) None (Some 23)
 past_map bytes h m = past_size bytes h ∙ cond-true _ _ _ (yes_map bytes m)
-
-pub map_short : (bytes : List ℕ) → Sized bytes → length (drop 1 bytes) < size_of_map (size bytes) → refusal bytes ≡ Some 22
-map_short bytes h short = past_size bytes h ∙ cond-false _ _ _ (and_left _ _ (lt-leb _ _ short))
-
-pub map_spare : (bytes : List ℕ) → Sized bytes → all_clear (drop (size bytes) (bits (map_part bytes))) ≡ false → refusal bytes ≡ Some 22
-map_spare bytes h spare = past_size bytes h ∙ cond-false _ _ _ (and_right _ _ spare)
-
-pub frames_short : (bytes : List ℕ) → Sized bytes → Mapped bytes → length (behind_map bytes) < frames_size bytes → refusal bytes ≡ Some 23
-frames_short bytes h m short = past_map bytes h m ∙ cond-false _ _ _ (lt-leb _ _ short)
 
 pub none_refused : (bytes : List ℕ) → Lawful bytes → refusal bytes ≡ None
 none_refused bytes h = past_map bytes h.sized h.mapped ∙ cond-true _ _ _ (yes_frames bytes h.framed)
@@ -84,26 +75,3 @@ within bytes h =
       frames = simp (length-take, length-drop) (omega arith);
       whole = omega arith;
     }
-
-pub sized_from : (bytes : List ℕ) → true ≡ has_size bytes → Sized bytes
-sized_from bytes e = let both = and_parts _ _ (sym e) in (leb-true _ _ both.0, leb-true _ _ both.1)
-
--- The questions as they are put one after the other: the parts are cut off as they are reached.
-module _
-    (bytes map behind : List ℕ) (set : ℕ) (map_is : map ≡ map_part bytes) (behind_is : behind ≡ behind_map bytes)
-    (size_yes : true ≡ has_size bytes) (long : size_of_map (size bytes) ≤ length (drop 1 bytes))
-    (spare_yes : true ≡ all_clear (drop (size bytes) (bits map))) (set_is : set ≡ count_of_set_bits (bits map)) where
-  mapped : Mapped bytes
-  mapped = (long, ap (λ (m : List ℕ). all_clear (drop (size bytes) (bits m))) (sym map_is) ∙ sym spare_yes)
-
-  pub frames_are : 122 * set ≡ frames_size bytes
-  frames_are = ap (λ (n : ℕ). 122 * n) (set_is ∙ ap (λ (m : List ℕ). count_of_set_bits (bits m)) map_is)
-
-  pub cut_short : length behind < 122 * set → refusal bytes ≡ Some 23
-  cut_short few = let size_is = frames_are in let rest = ap length behind_is in frames_short bytes (sized_from bytes size_yes) mapped (omega arith)
-
-  pub all_there : 122 * set ≤ length behind → refusal bytes ≡ None
-  all_there enough =
-      let size_is = frames_are in
-      let rest = ap length behind_is in
-      none_refused bytes (record { sized = sized_from bytes size_yes; mapped = mapped; framed = omega arith })

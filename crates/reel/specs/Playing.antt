@@ -1,11 +1,12 @@
 -- A reel as a channel.
-use Rattle.std.specs.Prelude.{◌≡◌, ℕ, ◌+◌, Bool, cond, List, [], ◌∷◌, ◌++◌, map, length, Some, None, MatchBool, Option, ◌==◌}
-use Rattle.std.specs.Option.{option_map}
+use Rattle.std.specs.Prelude.{◌≡◌, ℕ, ◌+◌, cond, List, [], ◌∷◌, ◌++◌, map, length, Some, None, Option, ◌==◌}
+use Rattle.std.specs.Option.{option_map, IfNone}
 use Rattle.std.specs.List.{flat_map}
 use Rattle.framing.specs.declared.slot.Slot.{Slot}
 use Rattle.framing.specs.declared.slot.Slot.TheVariants.{Gap, Mark}
 use Rattle.reel.specs.declared.playing.ReelChannel.{ReelChannel}
 use Rattle.reel.specs.declared.slots.Recorded.{Recorded}
+use Rattle.reel.specs.declared.slots.Slots.{Slots}
 use Rattle.reel.specs.Block.{Superframe, refusal}
 use Rattle.reel.specs.Recording.{to_come}
 use Rattle.reel.specs.Walking.{ahead, to_read}
@@ -36,10 +37,14 @@ part_of None = Gap
 abbrev pub part_slots : List Superframe → List Slot
 part_slots = with_marks part_of
 
--- the slots that wait: what is still to come of the block in hand and its mark, and then the slots of the lawful blocks behind it
+-- of a block in hand, what is still to come of it, and its mark
+abbrev pub in_hand : Option Slots → List Slot
+in_hand (Some s) = map part_of (to_come s) ++ Mark ∷ []
+in_hand None = []
+
+-- the slots that wait: those of the block in hand, and then the slots of the lawful blocks behind it
 abbrev pub waiting_slots : ReelChannel → List Slot
-waiting_slots c =
-    cond c.begun (map part_of (to_come c.slots) ++ Mark ∷ []) [] ++ part_slots (to_read c.blocks).superframes
+waiting_slots c = in_hand c.slots ++ part_slots (to_read c.blocks).superframes
 
 -- where reading will stop
 abbrev pub stops_at : ReelChannel → Option (ℕ × ℕ)
@@ -61,8 +66,8 @@ abbrev pub Always : ReelChannel → Type 0
 Always c = Unit {0}
 
 -- A block is in hand now, or nothing waits, and then nothing changes.
-pub record Opened (r : Bool) (old new : ReelChannel) : Type 0 where
-  pub now_begun : new.begun ≡ r
+pub record Opened (r : Option Slots) (old new : ReelChannel) : Type 0 where
+  pub now_in_hand : new.slots ≡ r
   pub same : waiting_slots new ≡ waiting_slots old
   pub steady : stops_at new ≡ stops_at old
-  pub else : MatchBool r (Unit {0}) ((waiting_slots old ≡ []) × (new ≡ old))
+  pub else : IfNone r ((waiting_slots old ≡ []) × (new ≡ old))

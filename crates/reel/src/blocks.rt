@@ -8,10 +8,10 @@ use crate::fault::ReelFault;
 use crate::parsing::read_block;
 
 /// The blocks of a reel, one after the other, up to the first that is not lawful: in its place comes the fault, and then nothing.
-#[derive(Clone, Copy)]
+#[derive(Clone, Copy, PartialEq, Eq, Debug)]
 pub struct Blocks<'a> {
     reel: &'a [u8],
-    /// How many bytes of the reel are passed.
+    /// How many bytes of the reel are passed: these give the place of the next block, which the rest of the reel alone does not.
     passed: usize,
 }
 

@@ -8,6 +8,7 @@ use crate::fault::ReelFault;
 
 /// Is the reel lawful? Else the first question that a block of it answers with no, and where that block begins.
 /// The contract also has the laws of the format and its worked examples.
+#[tactic(auto, using(crate::proofs::Format::format_laws, crate::proofs::Format::examples, crate::proofs::Reels::answer_means, crate::proofs::Reels::bytes_of))]
 pub fn check(reel: &[u8]) -> Result<(), ReelFault>
     ensures answer { told result ≡ (reading reel.now).stop }
     ensures means { Means reel.now result }

@@ -1,10 +1,11 @@
-ghost use Rattle.std.specs.Prelude.{◌≡◌, ◌+◌, ◌^◌, ◌<◌, ◌≤◌, IfOk};
+ghost use Rattle.std.specs.Prelude.{◌≡◌, ◌+◌, ◌/◌, ◌^◌, ◌<◌, length, IfOk};
 ghost use Rattle.std.specs.Option.{option_map};
 ghost use Rattle.reel.specs.Checking.{told};
 ghost use Rattle.reel.specs.Counting.{one_more, Counts};
 ghost use Rattle.reel.specs.Parts.{told_as};
 ghost use Rattle.reel.specs.Reel.{reading};
 
+use crate::block::Block;
 use crate::blocks::Blocks;
 use crate::fault::ReelFault;
 
@@ -20,21 +21,21 @@ pub struct Contents {
 }
 
 impl Contents {
-    /// The count with one superframe more, which has so many frames, and with its gaps so many slots.
-    fn with(self, slots: usize, frames: usize) -> Contents
-        requires { (self.superframes + 1 < 2 ^ 64) × ((self.frames + frames < 2 ^ 64) × ((frames ≤ slots) × (self.gaps + slots < 2 ^ 128))) }
-        ensures { result ≡ one_more self slots frames }
+    /// The count with this superframe more.
+    fn with(self, block: Block<'_>) -> Contents
+        requires { (self.superframes + 1 < 2 ^ 64) × ((self.frames + length block.frames.now / 122 < 2 ^ 64) × (self.gaps + block.size < 2 ^ 128)) }
+        ensures { result ≡ one_more self block.entry.size (length block.entry.frames.now / 122) }
     {
         Contents {
             superframes: self.superframes + 1,
-            frames: self.frames + frames,
-            gaps: self.gaps + (slots - frames) as u128,
+            frames: self.frames + block.frame_count(),
+            gaps: self.gaps + block.gap_count() as u128,
         }
     }
 }
 
 /// What a reel holds up to its end or its first fault, and that fault.
-#[derive(Clone, Copy)]
+#[derive(Clone, Copy, PartialEq, Eq, Debug)]
 pub struct Surveyed {
     pub contents: Contents,
     pub fault: Option<ReelFault>,
@@ -52,17 +53,17 @@ pub fn survey(reel: &[u8]) -> Surveyed
     };
     for found in Blocks::of(reel) {
         match found {
-            Ok(block) => {
-                contents = contents.with(usize::from(block.size), block.frames.len() / 122);
-            }
+            Ok(block) => contents = contents.with(block),
             Err(fault) => {
                 let fault = Some(fault);
                 return Surveyed { contents, fault };
             }
         }
     }
-    let fault = None;
-    Surveyed { contents, fault }
+    Surveyed {
+        contents,
+        fault: None,
+    }
 }
 
 /// Checks a reel, and counts what it holds.
@@ -70,9 +71,6 @@ pub fn count(reel: &[u8]) -> Result<Contents, ReelFault>
     ensures answer { told result ≡ (reading reel.now).stop }
     ensures counts { IfOk result (λ c. Counts (reading reel.now).superframes c) }
 {
-    let surveyed = survey(reel);
-    match surveyed.fault {
-        None => Ok(surveyed.contents),
-        Some(fault) => Err(fault),
-    }
+    let Surveyed { contents, fault } = survey(reel);
+    fault.map_or(Ok(contents), Err)
 }

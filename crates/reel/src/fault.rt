@@ -1,12 +1,12 @@
-/// The question that a block answers with no.
+/// The question that a block answers with no, by its number.
 #[derive(Clone, Copy, PartialEq, Eq, Debug)]
 pub enum BlockFault {
     /// The superframe has no frame, or more than 200.
-    SuperframeSize,
+    SuperframeSize = 21,
     /// The bit map is cut short, or a bit is set that belongs to no frame.
-    Map,
+    Map = 22,
     /// The frames are cut short.
-    Frames,
+    Frames = 23,
 }
 
 /// Why a reel is not lawful, and where.

@@ -1,4 +1,4 @@
-ghost use Rattle.std.specs.Prelude.{◌≡◌, ◌/◌, ◌^◌, ◌≤◌, ◌&&◌, length, drop, count_ones, nat_le};
+ghost use Rattle.std.specs.Prelude.{◌≡◌, ◌/◌, ◌^◌, ◌≤◌, ◌&&◌, length, drop, nat_le};
 ghost use Rattle.reel.specs.Bits.{bits, size_of_map, count_of_set_bits, all_clear};
 ghost use Rattle.reel.specs.Parts.{Read};
 
@@ -9,14 +9,7 @@ use crate::fault::BlockFault;
 fn is_superframe_size(size: u8) -> bool
     ensures { result ≡ (nat_le 1 size && nat_le size 200) }
 {
-    1 <= size && size <= 200
-}
-
-/// The number of bits that are set in one byte.
-fn set_in(byte: u8) -> u32
-    ensures { result ≡ count_ones byte }
-{
-    byte.count_ones()
+    (1..=200).contains(&size)
 }
 
 /// The number of bits that are set in a bit map.
@@ -24,11 +17,7 @@ fn set_bits(map: &[u8]) -> usize
     requires { length map.now ≤ 25 }
     ensures { result ≡ count_of_set_bits (bits map.now) }
 {
-    let mut set = 0;
-    for byte in map {
-        set += set_in(*byte);
-    }
-    set as usize
+    map.iter().map(|byte| byte.count_ones()).sum::<u32>() as usize
 }
 
 /// What is left of a byte behind its first, lowest, `used` bits.
@@ -52,24 +41,21 @@ fn spare_bits_are_clear(map: &[u8], size: u8) -> bool
 pub fn read_block<'a>(bytes: &'a [u8], at: usize) -> Result<Block<'a>, BlockFault>
     ensures { Read bytes.now at result }
 {
-    if bytes.is_empty() || !is_superframe_size(bytes[0]) {
+    let [size, rest @ ..] = bytes else {
+        return Err(BlockFault::SuperframeSize);
+    };
+    let size = *size;
+    if !is_superframe_size(size) {
         return Err(BlockFault::SuperframeSize);
     }
-    let size = bytes[0];
-    let map_size = (usize::from(size) + 7) / 8;
-    let rest = &bytes[1..];
-    if rest.len() < map_size {
-        return Err(BlockFault::Map);
-    }
-    let (map, behind_map) = rest.split_at(map_size);
+    let map_size = usize::from(size).div_ceil(8);
+    let (map, behind_map) = rest.split_at_checked(map_size).ok_or(BlockFault::Map)?;
     if !spare_bits_are_clear(map, size) {
         return Err(BlockFault::Map);
     }
-    let frames_size = 122 * set_bits(map);
-    if behind_map.len() < frames_size {
-        return Err(BlockFault::Frames);
-    }
-    let frames = &behind_map[0..frames_size];
+    let frames = behind_map
+        .get(..122 * set_bits(map))
+        .ok_or(BlockFault::Frames)?;
     Ok(Block {
         at,
         size,

@@ -1,4 +1,4 @@
-ghost use Rattle.std.specs.Prelude.{◌≡◌, true, false, [], ◌∷◌, Err};
+ghost use Rattle.std.specs.Prelude.{◌≡◌, []};
 ghost use Rattle.std.specs.Option.{option_map};
 ghost use Rattle.channel.specs.Answers.{TakeAnswer};
 ghost use Rattle.channel.specs.Asking.{waiting};
@@ -11,6 +11,7 @@ use crate::blocks::Blocks;
 use crate::fault::ReelFault;
 use crate::slots::{Recorded, Slots};
 use channel::channel::{Channel, Full};
+use channel::sending::Outgoing;
 use framing::frame::Frame;
 use framing::slot::Slot;
 
@@ -19,10 +20,8 @@ use framing::slot::Slot;
 pub struct ReelChannel<'a> {
     /// The blocks behind the one in hand.
     blocks: Blocks<'a>,
-    /// What is still to come of the block in hand.
-    slots: Slots<'a>,
-    /// Is a block in hand, of which at least the mark is still to come?
-    begun: bool,
+    /// What is still to come of the block in hand, its mark aside, which comes behind it.
+    slots: Option<Slots<'a>>,
 }
 
 impl<'a> ReelChannel<'a> {
@@ -33,35 +32,24 @@ impl<'a> ReelChannel<'a> {
         ensures free { no_space result ≡ 0 }
         ensures ties { Always result }
     {
-        ReelChannel::start(Blocks::of(reel))
-    }
-
-    /// The channel of these blocks, none of which is in hand.
-    fn start(blocks: Blocks<'a>) -> ReelChannel<'a>
-        ensures waits { waiting_slots result ≡ part_slots (to_read blocks.entry).superframes }
-        ensures stops { stops_at result ≡ (to_read blocks.entry).stop }
-    {
         ReelChannel {
-            blocks,
-            slots: Slots::none(),
-            begun: false,
+            blocks: Blocks::of(reel),
+            slots: None,
         }
     }
 
-    /// Is there a block in hand? If there is none, the next lawful block is taken in hand first.
-    fn open_block(&mut self) -> bool
+    /// What is to come of the block in hand. If none is in hand, the next lawful block is taken in hand first.
+    fn open_block(&mut self) -> Option<Slots<'a>>
         ensures { Opened result self.old self.new }
     {
-        if self.begun {
-            return true;
+        if self.slots.is_none() {
+            let mut blocks = self.blocks;
+            if let Some(Ok(block)) = blocks.next() {
+                self.blocks = blocks;
+                self.slots = Some(block.slots());
+            }
         }
-        let mut blocks = self.blocks;
-        if let Some(Ok(block)) = blocks.next() {
-            self.blocks = blocks;
-            self.slots = block.slots();
-            self.begun = true;
-        }
-        self.begun
+        self.slots
     }
 
     /// Does a lawful block follow the one in hand?
@@ -69,10 +57,7 @@ impl<'a> ReelChannel<'a> {
         ensures { result ≡ waiting (part_slots (to_read self.now.blocks).superframes) }
     {
         let mut blocks = self.blocks;
-        match blocks.next() {
-            Some(found) => found.is_ok(),
-            None => false,
-        }
+        blocks.next().is_some_and(|found| found.is_ok())
     }
 
     /// Where nothing waits: why nothing more comes of the reel, or nothing at its end. While a block is in hand, the same of the block that
@@ -82,25 +67,7 @@ impl<'a> ReelChannel<'a> {
         ensures all { waiting_slots self.now ≡ [] → option_map told_as result ≡ stops_at self.now }
     {
         let mut blocks = self.blocks;
-        match blocks.next() {
-            Some(found) => found.err(),
-            None => None,
-        }
-    }
-
-    /// The next slot of the block in hand.
-    fn next_slot(&mut self) -> Slot
-        requires { self.old.begun ≡ true }
-        ensures first { waiting_slots self.old ≡ result ∷ waiting_slots self.new }
-        ensures steady { stops_at self.new ≡ stops_at self.old }
-    {
-        match self.slots.next() {
-            Some(recorded) => as_slot(recorded),
-            None => {
-                self.begun = false;
-                Slot::Mark
-            }
-        }
+        blocks.next().and_then(Result::err)
     }
 }
 
@@ -118,46 +85,40 @@ impl Channel for ReelChannel<'_> {
     }
 
     fn waits(&self) -> bool {
-        self.begun || self.block_follows()
+        self.slots.is_some() || self.block_follows()
     }
 
-    fn put_frame(&mut self, frame: &Frame) -> Result<(), Full> {
-        let _ = frame;
-        no_room()
-    }
-
-    fn put_mark(&mut self) -> Result<(), Full> {
-        no_room()
+    /// Nothing can be put on a reel.
+    fn put(&mut self, _item: &Outgoing) -> Result<(), Full> {
+        Err(Full)
     }
 
     fn take(&mut self) -> Option<Slot>
         ensures answers { TakeAnswer waiting_slots no_space Always result self.old self.new }
         ensures steady { stops_at self.new ≡ stops_at self.old }
     {
-        if !self.open_block() {
-            return None;
+        let mut slots = self.open_block()?;
+        match slots.next() {
+            Some(recorded) => {
+                self.slots = Some(slots);
+                Some(Slot::from(recorded))
+            }
+            None => {
+                self.slots = None;
+                Some(Slot::Mark)
+            }
         }
-        Some(self.next_slot())
     }
 }
 
-/// The answer to each put: nothing can be put on a reel.
-fn no_room() -> Result<(), Full>
-    ensures { result ≡ Err (record {}) }
-{
-    Err(Full)
-}
+impl From<Recorded<'_>> for Slot {
+    ghost from_gives = { λ recorded slot. slot ≡ part_of (recorded_as recorded) };
 
-/// What a block has for one frame, as a slot.
-fn as_slot(recorded: Recorded) -> Slot
-    ensures { result ≡ part_of (recorded_as recorded.entry) }
-{
-    match recorded {
-        Recorded::Frame(frame) if frame.len() == 122 => {
-            let mut bytes = [0; 122];
-            bytes.copy_from_slice(frame);
-            Slot::Frame(Frame { bytes })
+    /// What a block has for one frame, as a slot. What is no whole frame is a gap.
+    fn from(recorded: Recorded<'_>) -> Slot {
+        match recorded {
+            Recorded::Frame(bytes) => Frame::try_from(bytes).map_or(Slot::Gap, Slot::Frame),
+            Recorded::Gap => Slot::Gap,
         }
-        _ => Slot::Gap,
     }
 }

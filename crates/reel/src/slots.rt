@@ -1,4 +1,4 @@
-ghost use Rattle.std.specs.Prelude.{◌≡◌, ◌/◌, ◌<◌, [], length};
+ghost use Rattle.std.specs.Prelude.{◌≡◌, ◌/◌, ◌<◌, length, SomeIff};
 ghost use Rattle.reel.specs.Bits.{bit_at};
 ghost use Rattle.reel.specs.Parts.{held};
 ghost use Rattle.reel.specs.Recording.{to_come, Comes};
@@ -6,8 +6,8 @@ ghost use Rattle.std.specs.Iterator.{at_most};
 
 use crate::block::Block;
 
-/// What a block has for one frame of its superframe.
-#[derive(Clone, Copy)]
+/// What a block has for one frame of its superframe. As an `Option` it would be an item of [`Slots`] that reads `Some(None)`.
+#[derive(Clone, Copy, PartialEq, Eq, Debug)]
 pub enum Recorded<'a> {
     /// The frame's bytes, as a part of the reel.
     Frame(&'a [u8]),
@@ -16,36 +16,21 @@ pub enum Recorded<'a> {
 }
 
 /// The frames and gaps of a block, one after the other.
-#[derive(Clone, Copy)]
+#[derive(Clone, Copy, PartialEq, Eq, Debug)]
 pub struct Slots<'a> {
     map: &'a [u8],
     /// The frames that are still to come.
     frames: &'a [u8],
     size: u8,
-    /// How many frames and gaps have come.
+    /// How many frames and gaps have come: no slice of bytes begins at a bit, so the next one is told by its number.
     passed: u8,
 }
 
-/// Bit `i`, counted from 0, of a bit map.
-fn bit(map: &[u8], i: usize) -> bool
-    requires { i / 8 < length map.now }
-    ensures { result ≡ bit_at map.now i }
+/// Bit `i`, counted from 0, of a bit map, where the map has it.
+fn bit(map: &[u8], i: usize) -> Option<bool>
+    ensures { SomeIff result (i / 8 < length map.now) (bit_at map.now i) }
 {
-    (map[i / 8] >> (i % 8)) % 2 == 1
-}
-
-impl<'a> Slots<'a> {
-    /// No frame and no gap.
-    pub(crate) fn none() -> Slots<'a>
-        ensures { to_come result ≡ [] }
-    {
-        Slots {
-            map: &[],
-            frames: &[],
-            size: 0,
-            passed: 0,
-        }
-    }
+    map.get(i / 8).map(|byte| (*byte >> (i % 8)) % 2 == 1)
 }
 
 impl<'a> Block<'a> {
@@ -70,15 +55,18 @@ impl<'a> Iterator for Slots<'a> {
     ghost remaining = { λ s. at_most (length (to_come s)) };
 
     fn next(&mut self) -> Option<Recorded<'a>> {
-        let i = usize::from(self.passed);
-        if self.passed >= self.size || i / 8 >= self.map.len() {
+        if self.passed >= self.size {
             return None;
         }
+        let is_there = bit(self.map, usize::from(self.passed))?;
         self.passed += 1;
-        if !bit(self.map, i) {
+        if !is_there {
             return Some(Recorded::Gap);
         }
-        let (frame, rest) = self.frames.split_at(self.frames.len().min(122));
+        let (frame, rest) = self
+            .frames
+            .split_at_checked(122)
+            .unwrap_or((self.frames, &[]));
         self.frames = rest;
         Some(Recorded::Frame(frame))
     }

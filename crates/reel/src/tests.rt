@@ -7,6 +7,7 @@ use crate::slots::Recorded;
 use channel::channel::Channel;
 use channel::fade::Fade;
 use channel::pattern::FadePattern;
+use channel::sending::Outgoing;
 use framing::slot::Slot;
 use std::process::Abort;
 
@@ -91,7 +92,7 @@ fn channel(rt: HostRuntime) {
     reel[248] = 2;
     reel[249] = 4;
     let mut whole = ReelChannel::over(&reel);
-    assert!(rt; whole.waits() && whole.room() == 0 && whole.put_mark().is_err());
+    assert!(rt; whole.waits() && whole.room() == 0 && whole.put(&Outgoing::Mark).is_err());
     assert_eq!(rt; taken(&mut whole), 719010);
     let fault = BlockFault::Map;
     assert_eq!(rt; whole.stop(), Some(ReelFault { fault, at: 249 }));

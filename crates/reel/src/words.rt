@@ -11,11 +11,7 @@ impl BlockFault {
     pub fn number(self) -> u8
         ensures { result ≡ fault_number self }
     {
-        match self {
-            BlockFault::SuperframeSize => 21,
-            BlockFault::Map => 22,
-            BlockFault::Frames => 23,
-        }
+        self as u8
     }
 }
 
@@ -24,14 +20,10 @@ impl fmt::Display for BlockFault {
 
     /// The question that was answered no, in words.
     fn fmt<W: fmt::Write>(&self, f: &mut fmt::Formatter<W>) -> fmt::Result {
-        match self {
-            BlockFault::SuperframeSize => {
-                f.write_str("does the superframe have from 1 to 200 frames?")
-            }
-            BlockFault::Map => {
-                f.write_str("is the bit map all there, with its spare bits clear?")
-            }
-            BlockFault::Frames => f.write_str("are the frames all there that the bit map names?"),
-        }
+        f.write_str(match self {
+            BlockFault::SuperframeSize => "does the superframe have from 1 to 200 frames?",
+            BlockFault::Map => "is the bit map all there, with its spare bits clear?",
+            BlockFault::Frames => "are the frames all there that the bit map names?",
+        })
     }
 }

@@ -1,13 +1,10 @@
 -- Questions put in turn: where all are answered yes, and what an answer tells of them.
-use Rattle.std.proofs.Common.{◌≡◌, ℕ, Bool, true, false, cond, List, [], ◌∷◌, ◌++◌, Ok, Err, Result, refl, arith}
+use Rattle.std.proofs.Common.{◌≡◌, ℕ, Bool, true, false, cond, List, [], ◌∷◌, ◌++◌, Ok, Err, Result, refl}
 use Rattle.service.specs.Asking.{Question, ask, AllYes}
-
-pub no_refusal : {A : Type 0} (n : ℕ) (a : A) → Err n ≡ Ok a → ⊥
-no_refusal n a e = let z : ◌≡◌ {A = ℕ} 0 1 = cc in omega arith
 
 one_yes : (b : Bool) (n : ℕ) (rest : Result (Unit {0}) ℕ) → cond b rest (Err n) ≡ Ok tt → (b ≡ true) × (rest ≡ Ok tt)
 one_yes true n rest e = (refl, e)
-one_yes false n rest e = absurd (no_refusal n tt e)
+one_yes false n rest e = cc e
 
 pub yes_first : (q : Question) (qs : List Question) → AllYes (q ∷ qs) → (q.1 ≡ true) × AllYes qs
 yes_first q qs e = one_yes q.1 q.0 (ask qs (tt {0})) e
@@ -35,7 +32,7 @@ asked_all (q ∷ qs) a e = let first = yes_first q qs e in rw first.0 (asked_all
 one_answered : {A : Type 0} (b : Bool) (n : ℕ) (more : Result A ℕ) (rest : Result (Unit {0}) ℕ) (x y : A)
     → (more ≡ Ok y → (rest ≡ Ok tt) × (x ≡ y)) → cond b more (Err n) ≡ Ok y → (cond b rest (Err n) ≡ Ok tt) × (x ≡ y)
 one_answered true n more rest x y f e = f e
-one_answered false n more rest x y f e = absurd (no_refusal n y e)
+one_answered false n more rest x y f e = cc e
 
 -- an answer that is no refusal says that the questions were answered yes
 pub answered : {A : Type 0} (qs : List Question) (a b : A) → ask qs a ≡ Ok b → AllYes qs × (a ≡ b)

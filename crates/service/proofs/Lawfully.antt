@@ -13,7 +13,7 @@ use Rattle.service.proofs.Maps.{same_true}
 
 -- a field that is absent, or that holds a number below the limit
 pub none_below : (limit : ℕ) → Below limit None
-none_below limit n e = let z : ◌≡◌ {A = ℕ} 0 1 = cc in let no_way : ⊥ = omega arith in absurd no_way
+none_below limit n e = cc e
 
 pub some_below : (k limit : ℕ) → k < limit → Below limit (Some k)
 some_below k limit h n e = let same : k ≡ n = cc in omega arith
@@ -24,7 +24,7 @@ implies_yes false c f = refl
 
 yes_implies : (b c : Bool) → (not b || c) ≡ true → b ≡ true → c ≡ true
 yes_implies true c e h = e
-yes_implies false c e h = let z : ◌≡◌ {A = ℕ} 0 1 = cc in let no_way : ⊥ = omega arith in absurd no_way
+yes_implies false c e h = cc h
 
 same_yes : (b c : Bool) → b ≡ c → same b c ≡ true
 same_yes true c e = sym e

@@ -1,14 +1,10 @@
 -- Bytes that were put into a buffer one after another.
-use Rattle.std.proofs.Common.{◌≡◌, ℕ, suc, ◌+◌, ◌-◌, ◌≤◌, cond, List, [], ◌++◌, length, take, drop, is_some, Some, None, Option, sym, refl, ap, ◌∙◌, append_assoc, arith, length-append, take-append-drop}
-use borrow.Rule.Slice.PartMut.{put_mid}
+use Rattle.std.proofs.Common.{◌≡◌, ℕ, suc, ◌+◌, ◌≤◌, cond, List, ◌++◌, length, take, drop, is_some, Some, None, Option, sym, refl, ap, ◌∙◌, append_assoc, arith, length-append}
 use Rattle.std.proofs.lemmas.List.{length-take-le, take_at, drop_at, drop-drop}
 use Rattle.service.specs.Encoding.{header_bytes, frame_id_field, timestamp_field}
 use Rattle.service.specs.Map.{map_of, header_length}
 use Rattle.service.specs.Writing.{Put}
 use Rattle.service.specs.declared.header.SyncHeader.{SyncHeader}
-
-pub put_none : (at : ℕ) (old : List ℕ) → Put at [] old at old
-put_none at old = record { ends = omega arith; bytes_are = sym (take-append-drop at old) }
 
 pub put_both : (at mid end : ℕ) (a b old new last : List ℕ)
     → mid ≤ length old → Put at a old mid new → Put mid b new end last → Put at (a ++ b) old end last
@@ -30,13 +26,6 @@ put_both at mid end a b old new last fits p q =
           ∙ ap (λ (s : List ℕ). front ++ (b ++ s)) rest ∙ append_assoc (take at old) a (b ++ drop end old)
           ∙ sym (ap (λ (s : List ℕ). take at old ++ s) (append_assoc a b (drop end old)));
     }
-
--- a copy into the part of a buffer between two places
-pub put_copied : (at : ℕ) (bytes old part : List ℕ)
-    → part ≡ bytes → Put at bytes old (at + length bytes) (put_mid at (at + length bytes - at) old part)
-put_copied at bytes old part same =
-    let k : at + length bytes - at ≡ length bytes = omega arith in
-    record { ends = refl; bytes_are = simp (same, k, drop-drop) }
 
 field_lengths : (id time : Option ℕ)
     → suc (length (frame_id_field id ++ timestamp_field time)) ≡ 1 + cond (is_some id) 1 0 + cond (is_some time) 4 0

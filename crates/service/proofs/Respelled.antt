@@ -31,10 +31,10 @@ digit n high mid k low e l m =
 
 -- four bytes are those of their number
 four_back : (l : List ℕ) → 4 ≤ length l → AtMost255 l → four_bytes (from_four (take 4 l)) ++ drop 4 l ≡ l
-four_back [] h f = let no_way : ⊥ = omega arith in absurd no_way
-four_back (a ∷ []) h f = let no_way : ⊥ = omega arith in absurd no_way
-four_back (a ∷ b ∷ []) h f = let no_way : ⊥ = omega arith in absurd no_way
-four_back (a ∷ b ∷ c ∷ []) h f = let no_way : ⊥ = omega arith in absurd no_way
+four_back [] h f = absurd (omega arith)
+four_back (a ∷ []) h f = absurd (omega arith)
+four_back (a ∷ b ∷ []) h f = absurd (omega arith)
+four_back (a ∷ b ∷ c ∷ []) h f = absurd (omega arith)
 four_back (a ∷ b ∷ c ∷ d ∷ l) h f =
     let n : ℕ = a + b * 256 + c * 65536 + d * 16777216 in
     let fa : a < 256 = f 0 in
@@ -64,10 +64,10 @@ fields_back : (f t : Bool) (byte : ℕ) (s : List ℕ) → AtMost255 s → 1 + c
     ++ drop (1 + cond f 1 0 + cond t 4 0) (byte ∷ s)
     ≡ s
 fields_back false false byte s bytes h = refl
-fields_back true false byte [] bytes h = let no_way : ⊥ = omega arith in absurd no_way
+fields_back true false byte [] bytes h = absurd (omega arith)
 fields_back true false byte (x ∷ s) bytes h = refl
 fields_back false true byte s bytes h = four_back s (omega arith) bytes
-fields_back true true byte [] bytes h = let no_way : ⊥ = omega arith in absurd no_way
+fields_back true true byte [] bytes h = absurd (omega arith)
 fields_back true true byte (x ∷ s) bytes h =
     ap (λ (l : List ℕ). x ∷ l) (four_back s (omega arith) (λ k. bytes (suc k)))
 
@@ -145,7 +145,7 @@ yeses byte m s all =
 
 read_facts : (s : List ℕ) → Bytes s → Yeses (get_or s 0 0) (map_at (get_or s 0 0)) s
     → Spells s (facts_within (map_at (get_or s 0 0)) s) (drop (header_length (map_at (get_or s 0 0))) s)
-read_facts [] bytes y = let no_way : ⊥ = omega (arith, y.q₃₀) in absurd no_way
+read_facts [] bytes y = absurd (omega (arith, y.q₃₀))
 read_facts (byte ∷ s) bytes y =
     let all = all_bytes (byte ∷ s) bytes in
     let m = map_at byte in
@@ -176,5 +176,4 @@ admits_exactly s bytes v is = (
         → ((h : SyncHeader) (payload : List ℕ) → r ≡ Ok (h, payload) → Spells s h payload)
         → (v : Option ℕ) → v ≡ refusal_in r → v ≡ None → (h : SyncHeader) × (payload : List ℕ) × Spells s h payload
     admitted (Ok a) spelled v is none = (a.0, a.1, spelled a.0 a.1 refl)
-    admitted (Err n) spelled v is none =
-        let z : ◌≡◌ {A = ℕ} 0 1 = cc in let no_way : ⊥ = omega arith in absurd no_way
+    admitted (Err n) spelled v is none = cc (sym none ∙ is)

@@ -4,14 +4,14 @@ use Rattle.std.proofs.lemmas.List.{take_at}
 use Rattle.std.proofs.lemmas.Bool.{leb-true}
 use Rattle.service.specs.Asking.{Question, AllYes}
 use Rattle.service.specs.Encoding.{encoding, field_questions}
-use Rattle.service.specs.Faults.{refusing, fault_number}
+use Rattle.service.specs.Faults.{refusing}
 use Rattle.service.specs.Map.{map_of, map_questions}
 use Rattle.service.specs.Reading.{reading}
 use Rattle.service.specs.Spelling.{Fit, Lawful}
 use Rattle.service.specs.Writing.{writing, writing_questions, written, Rewrites}
 use Rattle.service.specs.declared.header.HeaderFault.{HeaderFault}
 use Rattle.service.specs.declared.header.SyncHeader.{SyncHeader}
-use Rattle.service.proofs.Asked.{answered, yes_first, yes_parts, no_refusal}
+use Rattle.service.proofs.Asked.{answered, yes_first, yes_parts}
 use Rattle.service.proofs.Lawfully.{lawful_map, lawful_fields, yes_lawful}
 use Rattle.service.proofs.Respelled.{read_spelled}
 use Rattle.service.proofs.Spelled.{encoded_read}
@@ -55,4 +55,4 @@ rewrites r h payload old new is holds s bytes e fits =
     all_written : (r : Result ℕ HeaderFault) (h : SyncHeader) (payload old : List ℕ) (k : ℕ) → refusing r ≡ Ok k
         → written r h payload old ≡ encoding h payload ++ drop (length (encoding h payload)) old
     all_written (Ok n) h payload old k ok = refl
-    all_written (Err e) h payload old k ok = absurd (no_refusal (fault_number e) k ok)
+    all_written (Err e) h payload old k ok = cc ok

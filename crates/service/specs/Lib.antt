@@ -1,4 +1,5 @@
 pub mod Asking
+pub mod Choosing
 pub mod Encoding
 pub mod Examples
 pub mod Faults

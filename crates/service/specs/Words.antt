@@ -1,10 +1,18 @@
 -- A sync header in words. Assumes nothing.
-use Rattle.std.specs.Prelude.{ℕ, Bool, true, false, List, ◌++◌, Some, None, codes, decimal, Option}
+use Rattle.std.specs.Prelude.{ℕ, Bool, true, false, List, ◌++◌, codes, decimal, Option}
+use Rattle.spelling.specs.Optional.{optional_words}
 use Rattle.service.specs.declared.header.HeaderFault.{HeaderFault}
 use Rattle.service.specs.declared.header.HeaderFault.TheVariants.{Empty, ReservedBits, FrameIdPresence, FlagForKind, NoPayload, FrameIdRange, BufferLength}
 use Rattle.service.specs.declared.header.Kind.{Kind}
 use Rattle.service.specs.declared.header.Kind.TheVariants.{Video, Audio, TimedData, Adaptation}
 use Rattle.service.specs.declared.header.SyncHeader.{SyncHeader}
+
+-- the word in scripts, names and data
+abbrev pub word_of_kind : Kind → List ℕ
+word_of_kind Video = codes "video"
+word_of_kind Audio = codes "audio"
+word_of_kind TimedData = codes "data"
+word_of_kind Adaptation = codes "adaptation"
 
 abbrev pub kind_words : Kind → List ℕ
 kind_words Video = codes "video"
@@ -13,12 +21,10 @@ kind_words TimedData = codes "timed data"
 kind_words Adaptation = codes "adaptation"
 
 abbrev pub frame_words : Option ℕ → List ℕ
-frame_words None = codes "no frame"
-frame_words (Some n) = codes "frame " ++ decimal n
+frame_words id = optional_words decimal (codes "frame ") id (codes "no frame")
 
 abbrev pub timestamp_words : Option ℕ → List ℕ
-timestamp_words None = codes "no timestamp"
-timestamp_words (Some n) = codes "timestamp " ++ decimal n
+timestamp_words time = optional_words decimal (codes "timestamp ") time (codes "no timestamp")
 
 abbrev pub access_words : Bool → List ℕ
 access_words true = codes "random access point"

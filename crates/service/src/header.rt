@@ -1,7 +1,8 @@
 ghost use Rattle.std.specs.Prelude.{◌≡◌};
 ghost use Rattle.service.specs.Asking.{ask};
 ghost use Rattle.service.specs.Encoding.{field_questions};
-ghost use Rattle.service.specs.Faults.{fault_number, refusing};
+ghost use Rattle.service.specs.Faults.{fault_number, refusing, Numbered};
+ghost use Rattle.service.specs.Words.{word_of_kind};
 
 /// What a sync packet carries.
 #[derive(Clone, Copy, PartialEq, Eq, Debug)]
@@ -31,23 +32,23 @@ pub struct SyncHeader {
     pub unreferenced: bool,
 }
 
-/// Why a sync header is refused, on reading or on writing.
+/// Why a sync header is refused, on reading or on writing: each fault by the number of its question.
 #[derive(Clone, Copy, PartialEq, Eq, Debug)]
 pub enum HeaderFault {
     /// The packet has no byte at all.
-    Empty,
+    Empty = 30,
     /// Bit 7 or bit 8 of the map is set.
-    ReservedBits,
+    ReservedBits = 31,
     /// A frame id is there for adaptation, or missing for another kind.
-    FrameIdPresence,
+    FrameIdPresence = 32,
     /// A flag is set for a kind that cannot have it.
-    FlagForKind,
+    FlagForKind = 33,
     /// The named fields are not all there, or no payload follows.
-    NoPayload,
+    NoPayload = 34,
     /// The frame id of a video packet is above 59.
-    FrameIdRange,
+    FrameIdRange = 35,
     /// The buffer is too short for header and payload.
-    BufferLength,
+    BufferLength = 36,
 }
 
 impl SyncHeader {
@@ -62,19 +63,49 @@ impl SyncHeader {
     }
 }
 
+impl Kind {
+    /// The word for the kind, in scripts, names and data.
+    pub fn word(self) -> &'static str
+        ensures { result.now ≡ word_of_kind self }
+    {
+        match self {
+            Kind::Video => "video",
+            Kind::Audio => "audio",
+            Kind::TimedData => "data",
+            Kind::Adaptation => "adaptation",
+        }
+    }
+}
+
 impl HeaderFault {
     /// The number of the question that was answered no.
     pub fn number(self) -> u8
         ensures { result ≡ fault_number self }
     {
-        match self {
-            HeaderFault::Empty => 30,
-            HeaderFault::ReservedBits => 31,
-            HeaderFault::FrameIdPresence => 32,
-            HeaderFault::FlagForKind => 33,
-            HeaderFault::NoPayload => 34,
-            HeaderFault::FrameIdRange => 35,
-            HeaderFault::BufferLength => 36,
+        self as u8
+    }
+}
+
+/// A number that is none of a question on sync headers.
+#[derive(Clone, Copy, PartialEq, Eq, Debug)]
+pub struct NotAHeaderFault;
+
+/// The fault of the question with this number.
+impl TryFrom<u8> for HeaderFault {
+    type Error = NotAHeaderFault;
+
+    ghost try_from_gives = { Numbered };
+
+    fn try_from(number: u8) -> Result<HeaderFault, NotAHeaderFault> {
+        match number {
+            30 => Ok(HeaderFault::Empty),
+            31 => Ok(HeaderFault::ReservedBits),
+            32 => Ok(HeaderFault::FrameIdPresence),
+            33 => Ok(HeaderFault::FlagForKind),
+            34 => Ok(HeaderFault::NoPayload),
+            35 => Ok(HeaderFault::FrameIdRange),
+            36 => Ok(HeaderFault::BufferLength),
+            _ => Err(NotAHeaderFault),
         }
     }
 }

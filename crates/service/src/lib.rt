@@ -2,6 +2,7 @@
 //! them asks for.
 #![tactic(auto)]
 
+pub mod choice;
 pub mod examples;
 pub mod header;
 mod map;

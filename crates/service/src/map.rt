@@ -1,13 +1,13 @@
 ghost use Rattle.std.specs.Prelude.{◌≡◌, ◌%◌, ◌≤◌};
 ghost use Rattle.service.specs.Asking.{ask};
 ghost use Rattle.service.specs.Faults.{refusing};
-ghost use Rattle.service.specs.Map.{bit, number_of_kind, kind_of, map_at, map_byte, map_of, header_length, map_questions};
+ghost use Rattle.service.specs.Map.{bit, kind_of, map_at, map_byte, map_of, header_length, map_questions};
 
 use crate::header::{HeaderFault, Kind, SyncHeader};
 
 /// The first byte of a sync header, taken apart: the kind, which fields follow, and the two flags. Bits are
 /// counted from 1, the lowest.
-#[derive(Clone, Copy)]
+#[derive(Clone, Copy, PartialEq, Eq, Debug)]
 pub struct HeaderMap {
     /// Bits 1 and 2.
     pub kind: Kind,
@@ -21,11 +21,11 @@ pub struct HeaderMap {
     pub unreferenced: bool,
 }
 
-impl HeaderMap {
-    /// The map that `byte` is.
-    pub(crate) fn of_byte(byte: u8) -> HeaderMap
-        ensures { result ≡ map_at byte }
-    {
+/// The map that a byte is.
+impl From<u8> for HeaderMap {
+    ghost from_gives = { λ byte r. r ≡ map_at byte };
+
+    fn from(byte: u8) -> HeaderMap {
         HeaderMap {
             kind: kind_of(byte),
             frame_id: is_set(byte, 3),
@@ -34,11 +34,13 @@ impl HeaderMap {
             unreferenced: is_set(byte, 6),
         }
     }
+}
 
-    /// The map of a header with these facts.
-    pub(crate) fn of_header(header: &SyncHeader) -> HeaderMap
-        ensures { result ≡ map_of header.now }
-    {
+/// The map of a header with these facts.
+impl From<&SyncHeader> for HeaderMap {
+    ghost from_gives = { λ header r. r ≡ map_of header.now };
+
+    fn from(header: &SyncHeader) -> HeaderMap {
         HeaderMap {
             kind: header.kind,
             frame_id: header.frame_id.is_some(),
@@ -47,24 +49,25 @@ impl HeaderMap {
             unreferenced: header.unreferenced,
         }
     }
+}
 
-    /// The map as a byte.
-    pub(crate) fn byte(self) -> u8
-        ensures { result ≡ map_byte self }
-    {
-        let kind = kind_number(self.kind);
-        let fields = (self.frame_id as u8) << 2 | (self.timestamp as u8) << 3;
-        let flags = (self.access_point as u8) << 4 | (self.unreferenced as u8) << 5;
-        kind | fields | flags
+/// The map as a byte.
+impl From<HeaderMap> for u8 {
+    ghost from_gives = { λ map r. r ≡ map_byte map };
+
+    fn from(map: HeaderMap) -> u8 {
+        let fields = u8::from(map.frame_id) << 2 | u8::from(map.timestamp) << 3;
+        let flags = u8::from(map.access_point) << 4 | u8::from(map.unreferenced) << 5;
+        map.kind as u8 | fields | flags
     }
+}
 
+impl HeaderMap {
     /// The bytes of the map and of the fields that it names.
     pub(crate) fn header_len(self) -> usize
         ensures { result ≡ header_length self }
     {
-        let frame_id = if self.frame_id { 1 } else { 0 };
-        let timestamp = if self.timestamp { 4 } else { 0 };
-        1 + frame_id + timestamp
+        1 + usize::from(self.frame_id) + 4 * usize::from(self.timestamp)
     }
 
     /// Puts the questions on kind, fields and flags.
@@ -84,14 +87,7 @@ impl HeaderMap {
     }
 }
 
-// The number of a kind, as the two lowest bits of a map tell it.
-fn kind_number(kind: Kind) -> u8
-    ensures { result ≡ number_of_kind kind }
-{
-    kind as u8
-}
-
-// The kind that the two lowest bits of a map tell.
+// The kind that the two lowest bits of a map tell. It is no `From<u8>`, since a byte is more than its kind.
 fn kind_of(byte: u8) -> Kind
     ensures { result ≡ kind_of (byte % 4) }
 {

@@ -1,13 +1,13 @@
 ghost use Rattle.std.specs.Prelude.{◌≡◌, ◌<◌, length};
 ghost use Rattle.service.specs.Map.{header_length};
-ghost use Rattle.service.specs.Reading.{frame_id_within, timestamp_within, facts_within, reading, packet_read};
+ghost use Rattle.service.specs.Reading.{facts_within, reading, packet_read};
 ghost use Rattle.service.specs.Spelling.{ReadsExactly, OneMeaning};
 
 use crate::header::{HeaderFault, SyncHeader};
 use crate::map::{HeaderMap, is_set};
 
 /// A packet taken apart.
-#[derive(Clone, Copy)]
+#[derive(Clone, Copy, PartialEq, Eq, Debug)]
 pub struct SyncPacket<'a> {
     /// What its sync header tells.
     pub header: SyncHeader,
@@ -26,18 +26,18 @@ pub fn read_header(packet: &[u8]) -> Result<SyncPacket<'_>, HeaderFault>
     take_apart(packet)
 }
 
-// Puts the questions in their order, and then takes the facts.
+// Puts the questions in their order, and then takes the facts. It is a function of its own for its one result, of which the
+// laws of `read_header` are proved.
 fn take_apart(packet: &[u8]) -> Result<SyncPacket<'_>, HeaderFault>
     ensures { packet_read result ≡ reading packet.now }
 {
-    if packet.is_empty() {
+    let &[byte, ..] = packet else {
         return Err(HeaderFault::Empty);
-    }
-    let byte = packet[0];
+    };
     if is_set(byte, 7) || is_set(byte, 8) {
         return Err(HeaderFault::ReservedBits);
     }
-    let map = HeaderMap::of_byte(byte);
+    let map = HeaderMap::from(byte);
     map.check()?;
     let start = map.header_len();
     if packet.len() <= start {
@@ -51,37 +51,22 @@ fn take_apart(packet: &[u8]) -> Result<SyncPacket<'_>, HeaderFault>
     })
 }
 
-// The facts in a packet that is long enough for the fields that `map` names.
+// The facts in a packet that is long enough for the fields that `map` names: the frame id stands behind the map, and the
+// timestamp behind any frame id, its lowest byte first.
 fn facts_in(map: HeaderMap, packet: &[u8]) -> SyncHeader
     requires { header_length map < length packet.now }
     ensures { result ≡ facts_within map packet.now }
 {
+    let at = if map.frame_id { 2 } else { 1 };
+    let timestamp = match packet[at..].first_chunk() {
+        Some(bytes) if map.timestamp => Some(u32::from_le_bytes(*bytes)),
+        _ => None,
+    };
     SyncHeader {
         kind: map.kind,
-        frame_id: frame_id_in(map, packet),
-        timestamp: timestamp_in(map, packet),
+        frame_id: map.frame_id.then_some(packet[1]),
+        timestamp,
         access_point: map.access_point,
         unreferenced: map.unreferenced,
     }
-}
-
-// The frame id stands behind the map.
-fn frame_id_in(map: HeaderMap, packet: &[u8]) -> Option<u8>
-    requires { header_length map < length packet.now }
-    ensures { result ≡ frame_id_within map packet.now }
-{
-    if map.frame_id { Some(packet[1]) } else { None }
-}
-
-// The timestamp stands behind the map and any frame id, its lowest byte first.
-fn timestamp_in(map: HeaderMap, packet: &[u8]) -> Option<u32>
-    requires { header_length map < length packet.now }
-    ensures { result ≡ timestamp_within map packet.now }
-{
-    if !map.timestamp {
-        return None;
-    }
-    let at = if map.frame_id { 2 } else { 1 };
-    let bytes = [packet[at], packet[at + 1], packet[at + 2], packet[at + 3]];
-    Some(u32::from_le_bytes(bytes))
 }

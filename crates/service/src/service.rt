@@ -2,6 +2,7 @@ ghost use Rattle.std.specs.Prelude.{◌≡◌, ℕ, List, Option};
 ghost use Rattle.service.specs.Serving.{verdict_of};
 
 /// The number under which a service refuses a packet.
+// A number and not an enum: services are open, and each refuses by numbers of its own.
 #[derive(Clone, Copy, PartialEq, Eq, Debug)]
 pub struct NotAdmitted {
     pub number: u8,

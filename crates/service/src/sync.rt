@@ -19,7 +19,7 @@ impl From<HeaderFault> for NotAdmitted {
 }
 
 /// The service that admits exactly a lawful sync header followed by a payload.
-#[derive(Clone, Copy)]
+#[derive(Clone, Copy, PartialEq, Eq, Debug)]
 pub struct Sync;
 
 impl Service for Sync {
@@ -33,7 +33,8 @@ impl Service for Sync {
     }
 }
 
-// A fault of the header is passed up as its number.
+// A fault of the header is passed up as its number. It is a function of its own for its one result, of which the law of
+// `admit` is proved.
 fn judge(packet: &[u8]) -> Result<(), NotAdmitted>
     ensures { verdict_of result ≡ refusal_in (reading packet.now) }
 {

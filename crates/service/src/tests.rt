@@ -13,26 +13,24 @@ const FULL: SyncHeader = SyncHeader {
     unreferenced: true,
 };
 
-fn number(packet: &[u8]) -> u8 {
-    match Sync.admit(packet) {
-        Ok(()) => 0,
-        Err(refusal) => refusal.number,
-    }
+/// The number of the refusal, if there is one.
+fn number(packet: &[u8]) -> Option<u8> {
+    Sync.admit(packet).err().map(|refusal| refusal.number)
 }
 
 #[test]
 fn admits_and_refuses(rt: HostRuntime) {
-    assert_eq!(rt; number(&[0x14, 0x00, 0xAA]), 0);
-    assert_eq!(rt; number(&[]), 30);
-    assert_eq!(rt; number(&[0x54, 0x00, 0xAA]), 31);
-    assert_eq!(rt; number(&[0x94, 0x00, 0xAA]), 31);
-    assert_eq!(rt; number(&[0x00, 0xAA]), 32);
-    assert_eq!(rt; number(&[0x07]), 32);
-    assert_eq!(rt; number(&[0x16, 0x00, 0xAA]), 33);
-    assert_eq!(rt; number(&[0x25, 0x00, 0xAA]), 33);
-    assert_eq!(rt; number(&[0x0C, 0x00, 1, 2, 3, 4]), 34);
-    assert_eq!(rt; number(&[0x04, 60, 0xAA]), 35);
-    assert_eq!(rt; number(&[0x05, 60, 0xAA]), 0);
+    assert_eq!(rt; number(&[0x14, 0x00, 0xAA]), None);
+    assert_eq!(rt; number(&[]), Some(30));
+    assert_eq!(rt; number(&[0x54, 0x00, 0xAA]), Some(31));
+    assert_eq!(rt; number(&[0x94, 0x00, 0xAA]), Some(31));
+    assert_eq!(rt; number(&[0x00, 0xAA]), Some(32));
+    assert_eq!(rt; number(&[0x07]), Some(32));
+    assert_eq!(rt; number(&[0x16, 0x00, 0xAA]), Some(33));
+    assert_eq!(rt; number(&[0x25, 0x00, 0xAA]), Some(33));
+    assert_eq!(rt; number(&[0x0C, 0x00, 1, 2, 3, 4]), Some(34));
+    assert_eq!(rt; number(&[0x04, 60, 0xAA]), Some(35));
+    assert_eq!(rt; number(&[0x05, 60, 0xAA]), None);
 }
 
 #[test]

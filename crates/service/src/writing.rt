@@ -1,9 +1,9 @@
-ghost use Rattle.std.specs.Prelude.{◌≡◌, ◌+◌, ◌^◌, ◌≤◌, length, take, IfOk, Ok, OnOk};
-ghost use Rattle.service.specs.Encoding.{header_bytes, frame_id_field, timestamp_field};
+ghost use Rattle.std.specs.Prelude.{◌≡◌, ◌+◌, ◌≤◌, length, take, IfOk, Ok, OnOk};
+ghost use Rattle.service.specs.Encoding.{header_bytes};
 ghost use Rattle.service.specs.Faults.{refusing};
 ghost use Rattle.service.specs.Map.{map_of, header_length};
 ghost use Rattle.service.specs.Reading.{reading};
-ghost use Rattle.service.specs.Spelling.{Below, Fit};
+ghost use Rattle.service.specs.Spelling.{Fit};
 ghost use Rattle.service.specs.Writing.{Put, Rewrites, writing, written};
 
 use crate::header::{HeaderFault, SyncHeader};
@@ -26,13 +26,14 @@ pub fn write_header(
     put_packet(header, payload, out)
 }
 
-// Puts the questions in their order, and then writes.
+// Puts the questions in their order, and then writes. It is a function of its own for its one result, of which the laws of
+// `write_header` are proved.
 fn put_packet(header: &SyncHeader, payload: &[u8], out: &mut [u8]) -> Result<usize, HeaderFault>
     ensures answer { refusing result ≡ writing header.now payload.now (length out.old) }
     ensures buffer { out.new ≡ written result header.now payload.now out.old }
     ensures fits { OnOk result (Fit header.now) }
 {
-    let map = HeaderMap::of_header(header);
+    let map = HeaderMap::from(header);
     map.check()?;
     if payload.is_empty() {
         return Err(HeaderFault::NoPayload);
@@ -52,34 +53,18 @@ fn put_header(header: &SyncHeader, map: HeaderMap, out: &mut [u8]) -> usize
     ensures put { Put 0 (header_bytes header.now) out.old result out.new }
     ensures fits { Fit header.now }
 {
-    let at = put(out, 0, &[map.byte()]);
-    let at = put_frame_id(out, at, header.frame_id);
-    put_timestamp(out, at, header.timestamp)
-}
-
-fn put_frame_id(out: &mut [u8], at: usize, frame_id: Option<u8>) -> usize
-    requires { at + length (frame_id_field frame_id) ≤ length out.old }
-    ensures put { Put at (frame_id_field frame_id) out.old result out.new }
-    ensures fits { Below 256 frame_id }
-{
-    match frame_id {
-        Some(id) => put(out, at, &[id]),
-        None => at,
+    let mut end = put(out, 0, &[u8::from(map)]);
+    if let Some(id) = header.frame_id {
+        end = put(out, end, &[id]);
     }
-}
-
-fn put_timestamp(out: &mut [u8], at: usize, timestamp: Option<u32>) -> usize
-    requires { at + length (timestamp_field timestamp) ≤ length out.old }
-    ensures put { Put at (timestamp_field timestamp) out.old result out.new }
-    ensures fits { Below (2 ^ 32) timestamp }
-{
-    match timestamp {
-        Some(time) => put(out, at, &time.to_le_bytes()),
-        None => at,
+    if let Some(time) = header.timestamp {
+        end = put(out, end, &time.to_le_bytes());
     }
+    end
 }
 
-// Writes `bytes` into `out` behind its first `at`, and gives the place after them.
+// Writes `bytes` into `out` behind its first `at`, and gives the place after them. The buffer is the caller's and longer than
+// what is written, so the place where that ends is told beside it.
 fn put(out: &mut [u8], at: usize, bytes: &[u8]) -> usize
     requires { at + length bytes.now ≤ length out.old }
     ensures { Put at bytes.now out.old result out.new }

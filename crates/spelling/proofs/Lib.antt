@@ -1,2 +1,3 @@
-pub mod Spelling
+pub mod Optionals
 pub mod Parting
+pub mod Spelling

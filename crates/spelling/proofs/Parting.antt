@@ -1,8 +1,10 @@
 -- Lines and words.
-use Rattle.std.proofs.Common.{◌≡◌, ℕ, ◌+◌, ◌-◌, ◌<◌, ◌≤◌, min, Bool, true, false, cond, T, eqb, ◌⊎◌, List, [], ◌∷◌, length, get_or, take, drop, sym, refl, ap, ◌∙◌, subst, inl, inr, arith, eqb→eq, eq-eqb, ne_eqb}
-use Rattle.std.proofs.lemmas.Bool.{cases_lt}
-use Rattle.std.proofs.lemmas.List.{length-drop, drop_all, take_rest}
-use Rattle.spelling.specs.Lines.{chopped}
+use Rattle.std.proofs.Common.{◌≡◌, ℕ, ◌+◌, Bool, true, false, cond, ◌&&◌, eqb, List, [], ◌∷◌, length, take, drop, Some, None, Option, MatchOption, Bor, sym, refl, ap, ◌∙◌, subst, arith, one-add}
+use Rattle.std.proofs.lemmas.List.{drop-drop}
+use Rattle.std.proofs.lemmas.List.Recursion.{is_position_or_len}
+use Rattle.std.specs.Cmp.Lexicographic.{pointwise}
+use Rattle.std.specs.List.{position_or_len, prefix_len}
+use Rattle.std.specs.Option.{unwrap_or}
 use Rattle.spelling.specs.Words.{up_to, unspaced, begun, lengthened, words}
 
 -- spaces in front part no words
@@ -36,7 +38,7 @@ word_none (b ∷ bs) h = go (word_none bs) (eqb b 32) refl h
     go ih true e z = ih z
     go ih false e z =
         let z' : length (b ∷ up_to 32 bs) ≡ 0 = subst (λ (t : Bool). length (cond t [] (b ∷ up_to 32 bs)) ≡ 0) e z in
-        let no_way : ⊥ = omega (arith, z') in absurd no_way
+        absurd (omega (arith, z'))
 
 -- else the first word goes up to the next space
 pub word_first : (xs : List ℕ) → (length (up_to 32 (unspaced xs)) ≡ 0 → ⊥)
@@ -59,9 +61,10 @@ word_first (b ∷ bs) h = go (word_first bs) (eqb b 32) refl h
         (sym e) (begun_word b bs)
 
 -- the same of a text that is known to be without its spaces in front
-pub no_word : (xs rest : List ℕ) → rest ≡ unspaced xs → length (up_to 32 rest) ≡ 0 → words xs ≡ []
+pub no_word : (xs rest : List ℕ) → rest ≡ unspaced xs → length (up_to 32 rest) ≡ 0 → (words xs ≡ []) × (words rest ≡ [])
 no_word xs rest e h =
-    sym (words_unspaced xs) ∙ word_none xs (subst (λ (s : List ℕ). length (up_to 32 s) ≡ 0) e h)
+    let none = word_none xs (subst (λ (s : List ℕ). length (up_to 32 s) ≡ 0) e h) in
+    (sym (words_unspaced xs) ∙ none, ap words e ∙ none)
 
 pub one_word : (xs rest : List ℕ) → rest ≡ unspaced xs → (length (up_to 32 rest) ≡ 0 → ⊥)
     → words xs ≡ up_to 32 rest ∷ words (drop (length (up_to 32 rest)) rest)
@@ -79,62 +82,50 @@ up_to_front stop (b ∷ bs) = go (up_to_front stop bs) (eqb b stop)
     go ih true = refl
     go ih false = ap (λ (s : List ℕ). b ∷ s) ih
 
-pub up_to_within : (stop : ℕ) (xs : List ℕ) → length (up_to stop xs) ≤ length xs
-up_to_within stop [] = omega arith
-up_to_within stop (b ∷ bs) = go (up_to_within stop bs) (eqb b stop)
+-- how many bytes stand before the first stop
+pub up_to_len : (stop : ℕ) (xs : List ℕ) → length (up_to stop xs) ≡ position_or_len (λ b. eqb b stop) xs
+up_to_len stop = is_position_or_len (λ xs. length (up_to stop xs)) (λ b. eqb b stop) refl (λ b bs. go b bs (eqb b stop))
   where
-    go : length (up_to stop bs) ≤ length bs → (t : Bool) → length (cond t [] (b ∷ up_to stop bs)) ≤ length (b ∷ bs)
-    go ih true = omega arith
-    go ih false = omega (arith, ih)
+    go : (b : ℕ) (bs : List ℕ) (t : Bool) → length (cond t [] (b ∷ up_to stop bs)) ≡ cond t 0 (1 + length (up_to stop bs))
+    go b bs true = refl
+    go b bs false = omega arith
 
--- one byte more, at the head of what is left
-pub up_to_pass : (stop b : ℕ) (bs : List ℕ) → (b ≡ stop → ⊥) → length (up_to stop (b ∷ bs)) ≡ 1 + length (up_to stop bs)
-up_to_pass stop b bs h = ap (λ (t : Bool). length (cond t [] (b ∷ up_to stop bs))) (ne_eqb b stop h) ∙ omega arith
-
-pub up_to_stop : (stop b : ℕ) (bs : List ℕ) → b ≡ stop → length (up_to stop (b ∷ bs)) ≡ 0
-up_to_stop stop b bs h = ap (λ (t : Bool). length (cond t [] (b ∷ up_to stop bs))) (eq-eqb b stop h)
-
-pub unspaced_pass : (b : ℕ) (bs : List ℕ) → b ≡ 32 → unspaced (b ∷ bs) ≡ unspaced bs
-unspaced_pass b bs h = ap (λ (t : Bool). cond t (unspaced bs) (b ∷ bs)) (eq-eqb b 32 h)
-
-pub unspaced_stop : (b : ℕ) (bs : List ℕ) → (b ≡ 32 → ⊥) → unspaced (b ∷ bs) ≡ b ∷ bs
-unspaced_stop b bs h = ap (λ (t : Bool). cond t (unspaced bs) (b ∷ bs)) (ne_eqb b 32 h)
+-- what is left behind the spaces in front
+pub unspaced_rest : (xs : List ℕ) → drop (prefix_len (λ b. eqb b 32) xs) xs ≡ unspaced xs
+unspaced_rest [] = refl
+unspaced_rest (b ∷ bs) = go (unspaced_rest bs) (eqb b 32)
+  where
+    go : drop (prefix_len (λ b. eqb b 32) bs) bs ≡ unspaced bs → (t : Bool)
+        → drop (cond t (1 + prefix_len (λ b. eqb b 32) bs) 0) (b ∷ bs) ≡ cond t (unspaced bs) (b ∷ bs)
+    go ih true = rw one-add ih
+    go ih false = refl
 
 -- the first word and what is left, as a program cuts them
 pub word_found : (xs rest : List ℕ) (end : ℕ) → rest ≡ unspaced xs → end ≡ length (up_to 32 rest) → (end ≡ 0 → ⊥)
-    → words xs ≡ take (end - 0) rest ∷ words (take (length rest - end) (drop end rest))
+    → words xs ≡ take end rest ∷ words (drop end rest)
 word_found xs rest end e v h =
-    let word : up_to 32 rest ≡ take (end - 0) rest =
-    sym (up_to_front 32 rest) ∙ ap (λ (k : ℕ). take k rest) (omega (arith, v)) in
-    let left : drop (length (up_to 32 rest)) rest ≡ take (length rest - end) (drop end rest) =
-    ap (λ (k : ℕ). drop k rest) (sym v) ∙ sym (take_rest rest end) in
+    let word : up_to 32 rest ≡ take end rest = sym (up_to_front 32 rest) ∙ ap (λ (k : ℕ). take k rest) (sym v) in
+    let left : drop (length (up_to 32 rest)) rest ≡ drop end rest = ap (λ (k : ℕ). drop k rest) (sym v) in
     one_word xs rest e (λ z. h (v ∙ z)) ∙ (λ i. word i ∷ words (left i))
 
--- an empty text
-pub no_bytes : (xs : List ℕ) → true ≡ eqb (length xs) 0 → xs ≡ []
-no_bytes [] e = refl
-no_bytes (x ∷ xs) e = let z : length (x ∷ xs) ≡ 0 = eqb→eq (length (x ∷ xs)) 0 (subst T e tt) in
-    let no_way : ⊥ = omega (arith, z) in absurd no_way
-
--- what is left behind a line, as a program cuts it
-pub line_left : (xs : List ℕ) (n next : ℕ) → next ≡ min n (length xs)
-    → take (length xs - next) (drop next xs) ≡ drop n xs
-line_left xs n next e = take_rest xs next ∙ go (cases_lt n (length xs))
+-- Behind a line stands its line feed, or nothing: where no line feed begins the rest, the rest is empty.
+no_feed : (xs : List ℕ) → pointwise eqb (take 1 (drop (length (up_to 10 xs)) xs)) (10 ∷ []) ≡ false → drop (length (up_to 10 xs)) xs ≡ []
+no_feed [] h = refl
+no_feed (b ∷ bs) h = go (no_feed bs) (eqb b 10) refl h
   where
-    go : (n < length xs) ⊎ (length xs ≤ n) → drop next xs ≡ drop n xs
-    go (inl h) = ap (λ (k : ℕ). drop k xs) (omega (arith, e, h))
-    go (inr h) = drop_all next xs (omega (arith, e, h)) ∙ sym (drop_all n xs (omega (arith, h)))
+    go : (pointwise eqb (take 1 (drop (length (up_to 10 bs)) bs)) (10 ∷ []) ≡ false → drop (length (up_to 10 bs)) bs ≡ [])
+        → (t : Bool) → eqb b 10 ≡ t
+        → pointwise eqb (take 1 (drop (length (cond t [] (b ∷ up_to 10 bs))) (b ∷ bs))) (10 ∷ []) ≡ false
+        → drop (length (cond t [] (b ∷ up_to 10 bs))) (b ∷ bs) ≡ []
+    go ih true e z = let two : pointwise eqb (b ∷ []) (10 ∷ []) ≡ true = ap (λ (t : Bool). t && true) e in cc
+    go ih false e z = ih z
 
-pub line_falls : (xs : List ℕ) (n next : ℕ) → next ≡ min n (length xs) → 0 < n → (length xs ≡ 0 → ⊥)
-    → length (take (length xs - next) (drop next xs)) < length xs
-line_falls xs n next e pos some =
-    let left : length (take (length xs - next) (drop next xs)) ≡ length (drop n xs) = ap length (line_left xs n next e) in
-    omega (arith, left, length-drop n xs, pos, some)
-
--- a line with no carriage return at its end
-pub chopped_plain : (xs : List ℕ) → (get_or xs (length xs - 1) 0 ≡ 13 → ⊥) → xs ≡ chopped xs
-chopped_plain xs h = sym (ap (λ (t : Bool). cond t (take (length xs - 1) xs) xs) (ne_eqb (get_or xs (length xs - 1) 0) 13 h))
-
-pub chopped_empty : (xs : List ℕ) → length xs ≤ 0 → xs ≡ chopped xs
-chopped_empty [] h = refl
-chopped_empty (x ∷ xs) h = let no_way : ⊥ = omega (arith, h) in absurd no_way
+-- what is left when the line feed is taken off what stands behind a line
+pub behind_line : (xs : List ℕ) (rest : Bor (List ℕ)) (left : Option (Bor (List ℕ))) → rest.now ≡ drop (length (up_to 10 xs)) xs
+    → MatchOption left (pointwise eqb (take 1 rest.now) (10 ∷ []) ≡ false)
+    (λ x. (pointwise eqb (take 1 rest.now) (10 ∷ []) ≡ true) × (x.now ≡ drop 1 rest.now) × (length x.now + 1 ≡ length rest.now))
+    → (unwrap_or left rest).now ≡ drop (length (up_to 10 xs) + 1) xs
+behind_line xs rest None e h =
+    let none = no_feed xs (subst (λ (s : List ℕ). pointwise eqb (take 1 s) (10 ∷ []) ≡ false) e h) in
+    e ∙ none ∙ sym (ap (drop 1) none) ∙ drop-drop 1 (length (up_to 10 xs)) xs
+behind_line xs rest (Some x) e h = h.1 ∙ ap (drop 1) e ∙ drop-drop 1 (length (up_to 10 xs)) xs

@@ -1,8 +1,13 @@
 -- Numbers and bytes as they are spelt.
-use Rattle.std.proofs.Common.{◌≡◌, ℕ, ◌+◌, ◌-◌, ◌*◌, ◌/◌, ◌^◌, ◌<◌, ◌≤◌, min, false, T, eqb, List, [], ◌∷◌, ◌++◌, length, get_or, take, drop, Some, None, Option, sym, refl, ap, ◌∙◌, subst, arith, eq-eqb}
+use Rattle.std.proofs.Common.{◌≡◌, ℕ, ◌+◌, ◌-◌, ◌*◌, ◌/◌, ◌^◌, ◌<◌, ◌≤◌, zero, suc, min, false, List, [], ◌∷◌, ◌++◌, length, get_or, take, drop, Some, None, Option, ◌⊎◌, inl, inr, Bool, cond, ◌%◌, ne_eqb, sym, refl, ap, ◌∙◌, append_assoc, arith, eq-eqb}
+use Rattle.std.proofs.lemmas.Bool.{cases_eq}
+use Rattle.std.proofs.lemmas.Bool.Decides.{nat_tests}
+use Rattle.std.specs.List.{slice_index}
 use Rattle.std.proofs.lemmas.List.{drop_more, take_more, take_all}
+use Rattle.std.specs.Fmt.{digits, digits_onto, digit_glyph, format_spec, padded_integral, char_count}
+use Rattle.std.specs.Simd.{first_chunks}
 use Rattle.spelling.specs.Decimal.{capped, count_of_digits, spell_on, with_digit}
-use Rattle.spelling.specs.Hex.{behind, byte_of, digit_of, value_of_digit, hex_pair, hexed, in_front, in_word, unhexed}
+use Rattle.spelling.specs.Hex.{behind, byte_of, digit_of, value_of_digit, hex_pair, hexed, in_front, in_word, unhexed, ReadBack}
 
 -- two numbers that the machine holds alike lead to the same
 pub spell_capped : (a b : ℕ) (ds : List ℕ) → min a (2 ^ 64 - 1) ≡ min b (2 ^ 64 - 1)
@@ -33,47 +38,59 @@ spell_stop t i ds h e =
     ∙ ap (λ (o : Option ℕ). capped (spell_on (with_digit (Some t) o) (drop (i + 1) ds))) e
     ∙ ap (λ (s : List ℕ). capped (spell_on (Some t) s)) (sym (drop_more ds i 0 h))
 
-append_one : (xs : List ℕ) (b : ℕ) (ys : List ℕ) → (xs ++ b ∷ []) ++ ys ≡ xs ++ b ∷ ys
-append_one [] b ys = refl
-append_one (x ∷ xs) b ys = ap (λ (s : List ℕ). x ∷ s) (append_one xs b ys)
-
-append_none : (xs : List ℕ) → xs ++ [] ≡ xs
-append_none [] = refl
-append_none (x ∷ xs) = ap (λ (s : List ℕ). x ∷ s) (append_none xs)
-
 -- bytes behind others, and these behind the first
 pub behind_behind : (xs : List ℕ) (b : ℕ) (o : Option (List ℕ)) → behind (xs ++ b ∷ []) o ≡ behind xs (in_front (Some b) o)
 behind_behind xs b None = refl
-behind_behind xs b (Some ys) = ap Some (append_one xs b ys)
+behind_behind xs b (Some ys) = ap Some (append_assoc xs (b ∷ []) ys)
+
+-- the bytes that pairs of digits spell
+abbrev pub pairs_unhexed : List (List ℕ) → Option (List ℕ)
+pairs_unhexed [] = Some []
+pairs_unhexed (p ∷ ps) = in_front (byte_of (value_of_digit (get_or p 0 0)) (value_of_digit (get_or p 1 0))) (pairs_unhexed ps)
+
+none_behind : (o : Option ℕ) → in_front o None ≡ None
+none_behind None = refl
+none_behind (Some b) = refl
+
+-- digits, two a byte, spell what their pairs do
+pub in_pairs : (k : ℕ) (ds : List ℕ) → length ds ≡ 2 * k → unhexed ds ≡ pairs_unhexed (first_chunks 2 k ds)
+in_pairs zero [] e = refl
+in_pairs zero (d ∷ ds) e = absurd (omega (arith, e))
+in_pairs (suc k) [] e = absurd (omega (arith, e))
+in_pairs (suc k) (d ∷ []) e = absurd (omega (arith, e))
+in_pairs (suc k) (d ∷ f ∷ ds) e = ap (in_front (byte_of (value_of_digit d) (value_of_digit f))) (in_pairs k ds (omega (arith, e)))
+
+-- a digit too many
+pub hex_odd : (k : ℕ) (ds : List ℕ) → length ds ≡ 2 * k + 1 → unhexed ds ≡ None
+hex_odd k [] e = absurd (omega (arith, e))
+hex_odd k (d ∷ []) e = refl
+hex_odd zero (d ∷ f ∷ ds) e = absurd (omega (arith, e))
+hex_odd (suc k) (d ∷ f ∷ ds) e =
+    ap (in_front (byte_of (value_of_digit d) (value_of_digit f))) (hex_odd k ds (omega (arith, e)))
+    ∙ none_behind (byte_of (value_of_digit d) (value_of_digit f))
+
+-- bytes behind none
+pub behind_nothing : (o : Option (List ℕ)) → behind [] o ≡ o
+behind_nothing None = refl
+behind_nothing (Some bytes) = refl
 
 -- two more digits
-pub hex_more : (xs ds : List ℕ) (b : ℕ) → 2 ≤ length ds → Some b ≡ byte_of (value_of_digit (get_or ds 0 0)) (value_of_digit (get_or ds 1 0))
-    → behind (xs ++ b ∷ []) (unhexed (drop 2 ds)) ≡ behind xs (unhexed ds)
-hex_more xs [] b h e = let no_way : ⊥ = omega arith in absurd no_way
-hex_more xs (d ∷ []) b h e = let no_way : ⊥ = omega arith in absurd no_way
-hex_more xs (d ∷ f ∷ ds) b h e =
-    behind_behind xs b (unhexed ds) ∙ ap (λ (o : Option ℕ). behind xs (in_front o (unhexed ds))) e
+pub hex_more : (xs : List ℕ) (ps : List (List ℕ)) (i b : ℕ) → i < length ps
+    → Some b ≡ byte_of (value_of_digit (get_or (get_or ps i []) 0 0)) (value_of_digit (get_or (get_or ps i []) 1 0))
+    → behind (xs ++ b ∷ []) (pairs_unhexed (drop (i + 1) ps)) ≡ behind xs (pairs_unhexed (drop i ps))
+hex_more xs ps i b h e =
+    let more = pairs_unhexed (drop (i + 1) ps) in
+    behind_behind xs b more
+    ∙ ap (λ (o : Option ℕ). behind xs (in_front o more)) e
+    ∙ ap (λ (qs : List (List ℕ)). behind xs (pairs_unhexed qs)) (sym (drop_more ps i [] h))
 
 -- two bytes that are no digits
-pub hex_stop : (xs ds : List ℕ) → 2 ≤ length ds → None ≡ byte_of (value_of_digit (get_or ds 0 0)) (value_of_digit (get_or ds 1 0))
-    → behind xs (unhexed ds) ≡ None
-hex_stop xs [] h e = let no_way : ⊥ = omega arith in absurd no_way
-hex_stop xs (d ∷ []) h e = let no_way : ⊥ = omega arith in absurd no_way
-hex_stop xs (d ∷ f ∷ ds) h e = ap (λ (o : Option ℕ). behind xs (in_front o (unhexed ds))) (sym e)
-
--- the end, and a digit too many
-pub hex_done : (xs ds : List ℕ) → length ds ≡ 0 → behind xs (unhexed ds) ≡ Some xs
-hex_done xs [] e = ap Some (append_none xs)
-hex_done xs (d ∷ ds) e = let no_way : ⊥ = omega (arith, e) in absurd no_way
-
-pub hex_odd : (xs ds : List ℕ) → length ds < 2 → (length ds ≡ 0 → ⊥) → behind xs (unhexed ds) ≡ None
-hex_odd xs [] h e = absurd (e refl)
-hex_odd xs (d ∷ []) h e = refl
-hex_odd xs (d ∷ f ∷ ds) h e = let no_way : ⊥ = omega (arith, h) in absurd no_way
-
--- a test for 0 that failed
-pub not_zero : (n : ℕ) → false ≡ eqb n 0 → n ≡ 0 → ⊥
-not_zero n e z = subst T (sym (e ∙ eq-eqb n 0 z)) tt
+pub hex_stop : (xs : List ℕ) (ps : List (List ℕ)) (i : ℕ) → i < length ps
+    → None ≡ byte_of (value_of_digit (get_or (get_or ps i []) 0 0)) (value_of_digit (get_or (get_or ps i []) 1 0))
+    → behind xs (pairs_unhexed (drop i ps)) ≡ None
+hex_stop xs ps i h e =
+    ap (λ (qs : List (List ℕ)). behind xs (pairs_unhexed qs)) (drop_more ps i [] h)
+    ∙ ap (λ (o : Option ℕ). behind xs (in_front o (pairs_unhexed (drop (i + 1) ps)))) (sym e)
 
 -- digits of bytes behind others
 hexed_append : (xs ys : List ℕ) → hexed (xs ++ ys) ≡ hexed xs ++ hexed ys
@@ -87,3 +104,58 @@ hexed_more xs i h = sym (ap hexed (take_more xs i 0 h) ∙ hexed_append (take i 
 pub hexed_all : (xs : List ℕ) (i : ℕ) → (length xs ≡ 0 → ⊥) → length xs ≤ i → hexed (take i xs) ≡ in_word xs
 hexed_all [] i e h = absurd (e refl)
 hexed_all (x ∷ xs) i e h = ap hexed (take_all i (x ∷ xs) h)
+
+-- the last digit of a number that has no other, and of one that has
+last_digit : (k n : ℕ) (acc : List ℕ) → n / 16 ≡ 0 → digits_onto (suc k) 16 false n acc ≡ digit_glyph false (n % 16) ∷ acc
+last_digit k n acc h =
+    let this : List ℕ = digit_glyph false (n % 16) ∷ acc in
+    ap (λ (t : Bool). cond t this (digits_onto k 16 false (n / 16) this)) (eq-eqb (n / 16) 0 h)
+
+next_digit : (k n : ℕ) (acc : List ℕ) → (n / 16 ≡ 0 → ⊥)
+    → digits_onto (suc k) 16 false n acc ≡ digits_onto k 16 false (n / 16) (digit_glyph false (n % 16) ∷ acc)
+next_digit k n acc h =
+    let this : List ℕ = digit_glyph false (n % 16) ∷ acc in
+    ap (λ (t : Bool). cond t this (digits_onto k 16 false (n / 16) this)) (ne_eqb (n / 16) 0 h)
+
+padded_one : (x : ℕ) → padded_integral (format_spec 32 0 4 2 18446744073709551615) false [] (x ∷ []) ≡ 48 ∷ x ∷ []
+unfolding padded_integral char_count
+padded_one x = refl
+
+padded_two : (x y : ℕ) → padded_integral (format_spec 32 0 4 2 18446744073709551615) false [] (x ∷ y ∷ []) ≡ x ∷ y ∷ []
+unfolding padded_integral char_count
+padded_two x y = refl
+
+-- a byte as the library writes it in two hex digits
+pub hex_shown : (b : ℕ) → b < 256 → padded_integral (format_spec 32 0 4 2 18446744073709551615) false [] (digits 16 false b) ≡ hex_pair b
+unfolding digits
+hex_shown b h = go (cases_eq (b / 16) 0)
+  where
+    pad : List ℕ → List ℕ
+    pad = padded_integral (format_spec 32 0 4 2 18446744073709551615) false []
+
+    go : (b / 16 ≡ 0) ⊎ (b / 16 ≡ 0 → ⊥) → pad (digits_onto 64 16 false b []) ≡ hex_pair b
+    go (inl z) = ap pad (last_digit 63 b [] z) ∙ padded_one (digit_glyph false (b % 16)) ∙ ap (λ (d : ℕ). digit_of d ∷ digit_of b ∷ []) (sym z)
+    go (inr s) =
+        ap pad (next_digit 63 b [] s ∙ last_digit 62 (b / 16) (digit_glyph false (b % 16) ∷ []) (omega arith))
+        ∙ padded_two (digit_glyph false (b / 16 % 16)) (digit_glyph false (b % 16))
+
+-- a number below 16 is read from the digit that is written for it
+digit_back : (n : ℕ) → value_of_digit (digit_of n) ≡ Some (n % 16)
+digit_back n = grind (arith, nat_tests)
+
+pair_back : (b : ℕ) → b < 256 → byte_of (value_of_digit (digit_of (b / 16))) (value_of_digit (digit_of b)) ≡ Some b
+pair_back b h =
+    ap (λ (o : Option ℕ). byte_of o (value_of_digit (digit_of b))) (digit_back (b / 16))
+    ∙ ap (byte_of (Some (b / 16 % 16))) (digit_back b)
+    ∙ ap Some (omega arith)
+
+digits_back : (bytes : List ℕ) → ((k : ℕ) → k < length bytes → slice_index bytes k < 256) → unhexed (hexed bytes) ≡ Some bytes
+digits_back [] small = refl
+digits_back (b ∷ bs) small =
+    ap (λ (o : Option ℕ). in_front o (unhexed (hexed bs))) (pair_back b (small 0 (omega arith)))
+    ∙ ap (in_front (Some b)) (digits_back bs (λ k h. small (suc k) (omega (arith, h))))
+
+-- What is written in hex digits is read back.
+pub read_back : ReadBack
+read_back [] small = refl
+read_back (b ∷ bs) small = digits_back (b ∷ bs) small

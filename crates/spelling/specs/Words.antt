@@ -6,11 +6,6 @@ abbrev pub up_to : ℕ → List ℕ → List ℕ
 up_to stop [] = []
 up_to stop (b ∷ bs) = cond (b == stop) [] (b ∷ up_to stop bs)
 
--- what stands behind it
-abbrev pub behind_first : ℕ → List ℕ → List ℕ
-behind_first stop [] = []
-behind_first stop (b ∷ bs) = cond (b == stop) bs (behind_first stop bs)
-
 -- what is left without the spaces in front
 abbrev pub unspaced : List ℕ → List ℕ
 unspaced [] = []

@@ -14,9 +14,7 @@ fn spelt(digits: &[u8]) -> Option<usize>
 {
     let mut total = 0usize;
     for digit in digits {
-        let Some(count) = digit_count(*digit) else {
-            return None;
-        };
+        let count = digit_count(*digit)?;
         total = total.saturating_mul(10).saturating_add(count);
     }
     Some(total)
@@ -26,8 +24,5 @@ fn spelt(digits: &[u8]) -> Option<usize>
 fn digit_count(digit: u8) -> Option<usize>
     ensures { result ≡ count_of_digits digit }
 {
-    match digit {
-        b'0'..=b'9' => Some((digit - b'0') as usize),
-        _ => None,
-    }
+    char::from(digit).to_digit(10).map(|count| count as usize)
 }

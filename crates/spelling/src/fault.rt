@@ -1,11 +1,12 @@
-ghost use Rattle.std.specs.Prelude.{◌≡◌};
+ghost use Rattle.std.specs.Prelude.{◌≡◌, Some};
+ghost use Rattle.spelling.specs.Faults.{fault_words};
 ghost use Rattle.spelling.specs.declared.fault.LineFault.TheVariants.{NoMemory};
 
 use std::alloc::{AllocError, AllocFailed};
 use std::fmt;
 
 /// Why a line of a script is answered with an error. The script goes on.
-#[derive(Clone, Copy)]
+#[derive(Clone, Copy, PartialEq, Eq, Debug)]
 pub enum LineFault {
     /// The first word is no command.
     UnknownCommand,
@@ -47,8 +48,10 @@ impl<T: Drop> From<AllocFailed<T>> for LineFault {
     }
 }
 
+/// What is wrong, in words.
 impl fmt::Display for LineFault {
-    /// What is wrong, in words.
+    ghost output = { λ fault. Some (fault_words fault) };
+
     fn fmt<W: fmt::Write>(&self, f: &mut fmt::Formatter<W>) -> fmt::Result {
         f.write_str(match self {
             LineFault::UnknownCommand => "there is no such command",

@@ -1,11 +1,12 @@
-ghost use Rattle.std.specs.Prelude.{◌≡◌, ◌+◌, ◌<◌, [], length, drop, MatchOption, OnSome};
-ghost use Rattle.spelling.specs.Lines.{chopped};
-ghost use Rattle.spelling.specs.Words.{up_to};
+ghost use Rattle.std.specs.Prelude.{◌≡◌, length};
+ghost use Rattle.std.specs.Iterator.{at_most};
+ghost use Rattle.spelling.specs.Lines.{chopped, LineTaken};
 
 use crate::words::len_up_to;
 
 /// The lines of a script, given one at a time.
-#[derive(Clone, Copy)]
+// `split` would give an empty line behind the last line feed, and a chain with a closure has no type that callers can name.
+#[derive(Clone, Copy, PartialEq, Eq, Debug)]
 pub struct Lines<'a> {
     rest: &'a [u8],
 }
@@ -17,21 +18,23 @@ impl<'a> Lines<'a> {
     {
         Lines { rest: script }
     }
+}
 
-    /// The next line, up to the next line feed or the end, or nothing after the last. What is left begins behind that.
-    pub fn next_line(&mut self) -> Option<&'a [u8]>
-        ensures line { MatchOption result (self.old.rest.now ≡ []) (λ l. l.now ≡ up_to 10 self.old.rest.now) }
-        ensures left { MatchOption result (self.new.rest.now ≡ []) (λ _. self.new.rest.now ≡ drop (length (up_to 10 self.old.rest.now) + 1) self.old.rest.now) }
-        ensures falls { OnSome result (length self.new.rest.now < length self.old.rest.now) }
-    {
-        let rest = self.rest;
-        if rest.is_empty() {
+/// The next line, up to the next line feed or the end, or nothing after the last. What is left begins behind that.
+impl<'a> Iterator for Lines<'a> {
+    type Item = &'a [u8];
+
+    ghost next_gives = { λ s line t. LineTaken s.rest.now line t.rest.now };
+
+    ghost remaining = { λ s. at_most (length s.rest.now) };
+
+    fn next(&mut self) -> Option<&'a [u8]> {
+        if self.rest.is_empty() {
             return None;
         }
-        let end = len_up_to(rest, b'\n');
-        let next = end + (rest.len() - end).min(1);
-        self.rest = &rest[next..];
-        Some(&rest[0..end])
+        let (line, rest) = self.rest.split_at(len_up_to(self.rest, b'\n'));
+        self.rest = rest.strip_prefix(b"\n").unwrap_or(rest);
+        Some(line)
     }
 }
 
@@ -39,10 +42,5 @@ impl<'a> Lines<'a> {
 pub fn without_return(line: &[u8]) -> &[u8]
     ensures { result.now ≡ chopped line.now }
 {
-    let len = line.len();
-    if len > 0 && line[len - 1] == b'\r' {
-        &line[0..len - 1]
-    } else {
-        line
-    }
+    line.strip_suffix(b"\r").unwrap_or(line)
 }

@@ -1,34 +1,28 @@
-ghost use Rattle.std.specs.Prelude.{◌≡◌, ◌≤◌, [], ◌∷◌, length, drop, MatchOption};
-ghost use Rattle.spelling.specs.Words.{up_to, unspaced, words};
+ghost use Rattle.std.specs.Prelude.{◌≡◌, ◌≤◌, ◌==◌, length};
+ghost use Rattle.std.specs.Iterator.{YieldsFirstRef, item_count};
+ghost use Rattle.std.specs.List.{position_or_len, prefix_len};
+ghost use Rattle.spelling.specs.Words.{words};
 
 /// How many bytes stand before the first that is `stop`; all, where none is.
 pub fn len_up_to(bytes: &[u8], stop: u8) -> usize
-    ensures value { result ≡ length (up_to stop bytes.now) }
+    ensures value { result ≡ position_or_len (λ b. b == stop) bytes.now }
     ensures within { result ≤ length bytes.now }
 {
-    for (i, byte) in bytes.iter().enumerate() {
-        if *byte == stop {
-            return i;
-        }
-    }
-    bytes.len()
+    bytes.iter().take_while(|byte| **byte != stop).count()
 }
 
 /// How many spaces stand in front.
+// The test is the other way round than above: one function of the test would be longer than these two.
 fn spaces_in_front(bytes: &[u8]) -> usize
+    ensures value { result ≡ prefix_len (λ b. b == 32) bytes.now }
     ensures within { result ≤ length bytes.now }
-    ensures rest { drop result bytes.now ≡ unspaced bytes.now }
 {
-    for (i, byte) in bytes.iter().enumerate() {
-        if *byte != b' ' {
-            return i;
-        }
-    }
-    bytes.len()
+    bytes.iter().take_while(|byte| **byte == b' ').count()
 }
 
 /// The words of a line, parted by spaces, given one at a time.
-#[derive(Clone, Copy)]
+// `split` would give an empty word between two spaces, and a chain with a closure has no type that callers can name.
+#[derive(Clone, Copy, PartialEq, Eq, Debug)]
 pub struct Words<'a> {
     rest: &'a [u8],
 }
@@ -40,15 +34,21 @@ impl<'a> Words<'a> {
     {
         Words { rest: line }
     }
+}
 
-    /// The next word, or nothing after the last.
-    pub fn next_word(&mut self) -> Option<&'a [u8]>
-        ensures { MatchOption result (words self.old.rest.now ≡ []) (λ w. words self.old.rest.now ≡ w.now ∷ words self.new.rest.now) }
-    {
+/// The next word, or nothing after the last.
+impl<'a> Iterator for Words<'a> {
+    type Item = &'a [u8];
+
+    ghost next_gives = { YieldsFirstRef (λ s. words s.rest.now) };
+
+    ghost remaining = { item_count (λ s. words s.rest.now) };
+
+    fn next(&mut self) -> Option<&'a [u8]> {
         let line = self.rest;
         let rest = &line[spaces_in_front(line)..];
-        let end = len_up_to(rest, b' ');
-        self.rest = &rest[end..];
-        if end == 0 { None } else { Some(&rest[0..end]) }
+        let (word, rest) = rest.split_at(len_up_to(rest, b' '));
+        self.rest = rest;
+        if word.is_empty() { None } else { Some(word) }
     }
 }

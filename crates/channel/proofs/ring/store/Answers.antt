@@ -1,9 +1,8 @@
-use Rattle.std.proofs.Common.{◌≡◌, ℕ, ◌+◌, ◌*◌, ◌≤◌, List, length, take, drop, set, sym, ap, ◌∙◌, rules}
+use Rattle.std.proofs.Common.{◌≡◌, ℕ, ◌+◌, ◌*◌, ◌≤◌, List, length, sym, ap, ◌∙◌, rules}
 use Rattle.std.proofs.lemmas.List.{places}
 use Rattle.framing.specs.declared.slot.Slot.TheVariants.{Frame}
 use Rattle.channel.specs.Outgoings.{as_slot}
-use Rattle.channel.specs.Rings.{slot_of}
-use Rattle.channel.proofs.Places.{place_fits, only_tag, tag_read, only_frame, frame_read}
+use Rattle.channel.proofs.Places.{place_fits, only_frame, frame_read}
 use Rattle.channel.proofs.ring.store.Goals as goal
 
 pub returns-in-Frame : goal.returns-in-Frame
@@ -19,14 +18,4 @@ returns-in-Frame c =
           ∙ ap (λ (b : List ℕ). Frame (record { bytes = b })) copied
           ∙ sym (ap as_slot c.in-Frame.is);
       elsewhere = only_frame memory place c.copy_from_slice.new.self c.requires size;
-    }
-
-pub returns-in-Mark : goal.returns-in-Mark
-returns-in-Mark c =
-    let memory = c.args.memory.now in
-    let place = c.args.place in
-    let rest : List ℕ = take 122 (drop (place * 123 + 1) (set memory (place * 123) 1)) in
-    record {
-      holds = ap (λ (tag : ℕ). slot_of tag rest) (tag_read memory place 1 c.requires) ∙ sym (ap as_slot c.in-Mark.is);
-      elsewhere = only_tag memory place 1 c.requires;
     }

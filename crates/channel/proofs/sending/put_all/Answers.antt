@@ -3,21 +3,8 @@ use Rattle.std.proofs.lemmas.List.{take_more, length-take-le}
 use Rattle.channel.specs.declared.sending.Outgoing.{Outgoing}
 use Rattle.channel.specs.declared.sending.Outgoing.TheVariants.{Frame}
 use Rattle.channel.specs.Outgoings.{AllPut}
-use Rattle.channel.proofs.Sends.{all_put_none, all_put_more, all_put_refused}
+use Rattle.channel.proofs.Sends.{all_put_more}
 use Rattle.channel.proofs.sending.put_all.Goals as goal
-
-pub loop-i-init : goal.loop-i-init
-loop-i-init g c = (omega arith, all_put_none c.args.channel.now)
-
-pub returns-then-is_err : goal.returns-then-is_err
-returns-then-is_err g c =
-    let items = c.args.items.now in
-    let below : c.loop-i.i < length items = omega arith in
-    let done = length-take-le c.loop-i.i items (omega arith) in
-    let both =
-    all_put_refused (take c.loop-i.i items) c.put_one.result c.loop-i.invariant.1 c.put_one.ensures
-    c.if-is_err.ensures.value in
-    record { counts = omega (arith, both.1); puts = both.0 }
 
 pub loop-i-preserved : goal.loop-i-preserved
 loop-i-preserved g c =
@@ -26,11 +13,11 @@ loop-i-preserved g c =
     let below : c.loop-i.i < length items = omega arith in
     let more : take (c.loop-i.i + 1) items ≡ take c.loop-i.i items ++ get_or items c.loop-i.i none ∷ [] =
     take_more items c.loop-i.i none below in
-    let put : AllPut g.C.Channel.slots g.C.Channel.space g.C.Channel.made g.C.Channel.tied (take (c.loop-i.i + 1) items) c.args.channel.now c.put_one.new.channel =
+    let put : AllPut g.C.Channel.slots g.C.Channel.space g.C.Channel.made g.C.Channel.tied (take (c.loop-i.i + 1) items) c.args.channel.now c.put.new.self =
     subst
     (λ (done : List Outgoing).
-    AllPut g.C.Channel.slots g.C.Channel.space g.C.Channel.made g.C.Channel.tied done c.args.channel.now c.put_one.new.channel)
+    AllPut g.C.Channel.slots g.C.Channel.space g.C.Channel.made g.C.Channel.tied done c.args.channel.now c.put.new.self)
     (sym more)
-    (all_put_more (take c.loop-i.i items) (get_or items c.loop-i.i none) c.put_one.result c.loop-i.invariant.1
-    c.put_one.ensures c.if-is_err.ensures.value) in
+    (all_put_more (take c.loop-i.i items) (get_or items c.loop-i.i none) c.put.result c.loop-i.invariant.1
+    c.put.ensures c.if-is_err.ensures.value) in
     let many = length-take-le (c.loop-i.i + 1) items (omega arith) in (omega (arith, put.counts), put)

@@ -13,7 +13,7 @@ pub returns : goal.returns
 returns c =
     let s : List ℕ = c.args.packet.now in
     let byte = get_or s 0 0 in
-    let m = c.of_byte-map.result in
+    let m = c.from-map.result in
     let some : 1 ≤ length s = omega arith in
     let e₇ : bit 7 byte ≡ false = cc in
     let e₈ : bit 8 byte ≡ false = cc in
@@ -23,5 +23,5 @@ returns c =
     ∙ sym c.in_ok-check_fields.ensures in
     let yes = read_yes byte m s some e₇ e₈ (sym c.in_ok-check.ensures) fits fields in
     let payload = take_rest s c.header_len-start.result ∙ ap (λ (n : ℕ). drop n s) c.header_len-start.ensures in
-    let mapped = ap (λ (m : HeaderMap). read_by byte m s) c.of_byte-map.ensures in
+    let mapped = ap (λ (m : HeaderMap). read_by byte m s) c.from-map.ensures in
     cc

@@ -13,13 +13,13 @@ returns c =
     let h = c.args.header.now in
     let p : List ℕ = c.args.payload.now in
     let old : List ℕ = c.args.out.now in
-    let long : length (header_bytes h) ≡ header_length c.of_header-map.result =
-    header_long h ∙ ap header_length (sym c.of_header-map.ensures) in
+    let long : length (header_bytes h) ≡ header_length c.from-map.result =
+    header_long h ∙ ap header_length (sym c.from-map.ensures) in
     let whole : length (encoding h p) ≡ length (header_bytes h) + length p = length-append (header_bytes h) p in
     let first = c.put_header-end.ensures.put in
     let both = put_both 0 c.put_header-end.result c.put.result (header_bytes h) p old c.put_header-end.new.out c.put.new.out (omega arith) first c.put.ensures in
     let checked : AllYes (map_questions (map_of h)) =
-    sym (ap (λ (m : HeaderMap). ask (map_questions m) (tt {0})) c.of_header-map.ensures) ∙ sym c.in_ok-check.ensures in
+    sym (ap (λ (m : HeaderMap). ask (map_questions m) (tt {0})) c.from-map.ensures) ∙ sym c.in_ok-check.ensures in
     let not_empty : eqb (length p) 0 ≡ false = sym c.is_empty.ensures ∙ c.if-is_empty.false in
     let some : 1 ≤ length p = omega (arith, eqb-false (length p) 0 not_empty) in
     let yes =

@@ -1,15 +1,12 @@
 use Rattle.service.proofs.Rewritten.{reads_back, rewrites}
 use Rattle.service.proofs.writing.write_header.Goals as goal
 
-pub returns : goal.returns
-returns c =
-    let h = c.args.header.now in
-    let p = c.args.payload.now in
-    let old = c.args.out.now in
+pub returns-clause-reads_back : goal.returns-clause-reads_back
+returns-clause-reads_back c =
     let put = c.put_packet.ensures in
-    record {
-      answer = put.answer;
-      buffer = put.buffer;
-      reads_back = reads_back c.put_packet.result h p old c.put_packet.new.out put.answer put.buffer put.fits;
-      rewrites = rewrites c.put_packet.result h p old c.put_packet.new.out put.answer put.buffer;
-    }
+    reads_back c.put_packet.result c.args.header.now c.args.payload.now c.args.out.now c.put_packet.new.out put.answer put.buffer put.fits
+
+pub returns-clause-rewrites : goal.returns-clause-rewrites
+returns-clause-rewrites c =
+    let put = c.put_packet.ensures in
+    rewrites c.put_packet.result c.args.header.now c.args.payload.now c.args.out.now c.put_packet.new.out put.answer put.buffer

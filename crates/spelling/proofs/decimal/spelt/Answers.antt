@@ -4,18 +4,18 @@ use Rattle.spelling.specs.Decimal.{capped, spell_on}
 use Rattle.spelling.proofs.Spelling.{spell_stop, spell_more}
 use Rattle.spelling.proofs.decimal.spelt.Goals as goal
 
-pub returns-in_default : goal.returns-in_default
-returns-in_default c =
-    spell_stop c.loop-digit.total c.loop-digit.digit-index c.args.digits.now c.loop-digit-test.true
-    (sym c.in_default.is ∙ c.digit_count.ensures)
+pub returns-in_err-count : goal.returns-in_err-count
+returns-in_err-count c =
+    c.from_residual.ensures
+    ∙ spell_stop c.loop-digit.total c.loop-digit.digit-index c.args.digits.now c.loop-digit-test.true c.in_err-count.ensures
     ∙ c.loop-digit.invariant.1
 
 pub loop-digit-preserved : goal.loop-digit-preserved
 loop-digit-preserved c = (
   c.saturating_add-total.type_inv,
-  spell_more c.loop-digit.total c.loop-digit.digit-index c.in-Some.count c.saturating_add-total.result
+  spell_more c.loop-digit.total c.loop-digit.digit-index c.in_ok-count.count c.saturating_add-total.result
       c.args.digits.now c.loop-digit-test.true
-      (sym c.in-Some.is ∙ c.digit_count.ensures)
+      c.in_ok-count.ensures
       (omega (arith, c.saturating_add-total.ensures, c.saturating_mul.ensures))
       ∙ c.loop-digit.invariant.1,
 )

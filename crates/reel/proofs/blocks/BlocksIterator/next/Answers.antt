@@ -1,4 +1,4 @@
-use Rattle.std.proofs.Common.{◌≡◌, ℕ, ◌+◌, ◌<◌, List, length, drop, Some, None, Ok, Err, refl, ap, ◌∙◌, subst, subst₂, arith, rules}
+use Rattle.std.proofs.Common.{◌≡◌, ℕ, ◌+◌, ◌<◌, List, length, drop, Some, None, Ok, Err, refl, ap, ◌∙◌, subst, subst₂, arith}
 use Rattle.std.proofs.lemmas.List.{drop_all, take_rest, length-drop}
 use Rattle.reel.specs.declared.fault.ReelFault.{ReelFault}
 use Rattle.reel.specs.Bits.{size_of_map}
@@ -8,16 +8,15 @@ use Rattle.reel.specs.Walking.{Next, moved}
 use Rattle.reel.proofs.Questions.{lawful, within}
 use Rattle.reel.proofs.Walks.{end_reads, block_reads, fault_reads}
 use Rattle.reel.proofs.blocks.BlocksIterator.next.Goals as goal
-use Rattle.std.proofs.iter.Next.{firm}
 
-pub returns-then-self : goal.returns-then-self
-returns-then-self c =
+pub returns-then-self-clause-steps : goal.returns-then-self-clause-steps
+returns-then-self-clause-steps c =
     let s = c.args.self.now in
     let step : Next s None s = (drop_all s.passed s.reel.now (omega arith), refl) in
-    record { steps = (step, end_reads s s step); goes = firm (tt) (λ h. search rules) }
+    (step, end_reads s s step)
 
-pub returns-in-Ok : goal.returns-in-Ok
-returns-in-Ok c =
+pub returns-in-Ok-clause-steps : goal.returns-in-Ok-clause-steps
+returns-in-Ok-clause-steps c =
     let s = c.args.self.now in
     let b = c.in-Ok.block in
     let rest = drop s.passed s.reel.now in
@@ -29,10 +28,10 @@ returns-in-Ok c =
     let far : s.passed + c.bytes_taken.result ≡ s.passed + block_size rest = omega (arith, c.bytes_taken.ensures) in
     let t = moved s (s.passed + c.bytes_taken.result) in
     let step : Next s (Some (Ok b)) t = (some, read.0, read.1, ap (moved s) far) in
-    record { steps = (step, block_reads s b t step read.2); goes = firm ((tt, tt, simp length-drop (omega arith))) (λ h. search rules) }
+    (step, block_reads s b t step read.2)
 
-pub returns-in-Err : goal.returns-in-Err
-returns-in-Err c =
+pub returns-in-Err-clause-steps : goal.returns-in-Err-clause-steps
+returns-in-Err-clause-steps c =
     let s = c.args.self.now in
     let f : ReelFault = record { fault = c.in-Err.fault; at = c.place-at.result } in
     let rest = drop s.passed s.reel.now in
@@ -40,4 +39,4 @@ returns-in-Err c =
     let read = subst (λ (bytes : List ℕ). Read bytes f.at (Err f.fault)) (take_rest s.reel.now s.passed) c.in-Err.ensures in
     let t = moved s (length s.reel.now) in
     let step : Next s (Some (Err f)) t = (some, read, c.place-at.ensures, refl) in
-    record { steps = (step, fault_reads s f t step); goes = firm ((tt, tt, simp length-drop (omega arith))) (λ h. search rules) }
+    (step, fault_reads s f t step)
