@@ -1,5 +1,5 @@
 -- Each call of a flow adds one event to its history, and the run law holds of it.
-use Rattle.std.proofs.Common.{◌≡◌, ℕ, ◌+◌, ◌<◌, Bool, true, false, cond, not, leb, List, [], ◌∷◌, ◌++◌, map, length, is_some, Some, None, Ok, Err, Option, Result, sym, refl, ap, ◌∙◌, subst, arith}
+use Rattle.std.proofs.Common.{◌≡◌, ℕ, ◌+◌, ◌<◌, true, false, cond, not, leb, List, [], ◌∷◌, ◌++◌, map, length, is_some, Some, None, Ok, Err, Option, Result, sym, refl, ap, ◌∙◌, subst, arith}
 use Rattle.std.proofs.lemmas.List.{append-nil}
 use Rattle.std.proofs.lemmas.Bool.{leb-true, and_parts, not-true}
 use Rattle.framing.specs.declared.slot.Slot.{Slot}
@@ -11,6 +11,7 @@ use Rattle.receiver.specs.Readings.{said, number}
 use Rattle.receiver.specs.Views.{view}
 use Rattle.receiver.specs.declared.answer.Reading.{Reading}
 use Rattle.receiver.specs.declared.answer.BufferTooShort.{BufferTooShort}
+use Rattle.receiver.specs.declared.terms.Terms.{Terms}
 use Rattle.runlaw.specs.History as history
 use Rattle.runlaw.specs.History.{Call, Reply, Event, History, offer, refused, done, answers}
 use Rattle.runlaw.specs.Law.{RunLaw}
@@ -50,15 +51,14 @@ module _
 
     -- the sides that a call left are those of the new flow
     arrived : (old new : Flow C K S) (h : History) (st : State) (rd : Reader) (sl : List Slot)
-        → Since old.fasb width value (verdict old.service) made h st rd sl
+        → Since old.terms.fasb width value (verdict old.terms.service) made h st rd sl
         → state_of new.writer ≡ st → view new.reader ≡ rd → slots new.channel ≡ sl → Steady old new → Tied space tied new
         → Of h new
     arrived old new h st rd sl since writer reader channel steady ties = (
-      subst (λ b. Since b width value (verdict new.service) made h (state_of new.writer) (view new.reader) (slots new.channel)) (sym steady.fasb)
-          (subst (λ v. Since old.fasb width value (verdict v) made h (state_of new.writer) (view new.reader) (slots new.channel)) (sym steady.service)
-          (subst (λ x. Since old.fasb width value (verdict old.service) made h x (view new.reader) (slots new.channel)) (sym writer)
-          (subst (λ x. Since old.fasb width value (verdict old.service) made h st x (slots new.channel)) (sym reader)
-          (subst (λ x. Since old.fasb width value (verdict old.service) made h st rd x) (sym channel) since)))),
+      subst (λ (t : Terms K S). Since t.fasb width value (verdict t.service) made h (state_of new.writer) (view new.reader) (slots new.channel)) (sym steady.terms)
+          (subst (λ x. Since old.terms.fasb width value (verdict old.terms.service) made h x (view new.reader) (slots new.channel)) (sym writer)
+          (subst (λ x. Since old.terms.fasb width value (verdict old.terms.service) made h st x (slots new.channel)) (sym reader)
+          (subst (λ x. Since old.terms.fasb width value (verdict old.terms.service) made h st rd x) (sym channel) since))),
       ties,
     )
 
@@ -68,7 +68,7 @@ module _
     Tells call reply puts takes old new e = EventOf slots made call reply puts takes old new e
 
     abbrev Next : History → (old new : Flow C K S) → Event → Type 0
-    Next h old new e = Of (h ++ (e ∷ [])) new × RunLaw old.fasb width reach value (h ++ (e ∷ []))
+    Next h old new e = Of (h ++ (e ∷ [])) new × RunLaw old.terms.fasb width reach value (h ++ (e ∷ []))
 
     -- 1. A call has an event.
 
@@ -140,22 +140,22 @@ module _
     next_refused : (call : Call) (question : ℕ) (within : Option ℕ) (h : History) (old new : Flow C K S) → new ≡ old → Of h old
         → (e : Event) → Tells call (refused question within) [] [] old new e → Next h old new e
     next_refused call question within h old new same was e tells =
-        let since = since_refused old.fasb width value (verdict old.service) made was.0 call question within in
+        let since = since_refused old.terms.fasb width value (verdict old.terms.service) made was.0 call question within in
         subst (Next h old new) (sym (event_is e tells.call_is tells.reply_is (none_sent e.sent tells.sent_is) tells.taken_is)) (
           subst (Of (h ++ (event call (refused question within) [] [] ∷ []))) (sym same) (since, was.1),
-          since_law old.fasb width value (verdict old.service) made since reach sized detects,
+          since_law old.terms.fasb width value (verdict old.terms.service) made since reach sized detects,
         )
 
     -- an accepted call of the writing side
     next_wrote : (call : Call) (step : Step) (h : History) (old new : Flow C K S) (e : Event) → Tells call done step.puts [] old new e
-        → Since old.fasb width value (verdict old.service) made (h ++ (event call done e.sent [] ∷ [])) step.state (view old.reader) (slots old.channel ++ map became e.sent)
+        → Since old.terms.fasb width value (verdict old.terms.service) made (h ++ (event call done e.sent [] ∷ [])) step.state (view old.reader) (slots old.channel ++ map became e.sent)
         → state_of new.writer ≡ step.state → new.reader ≡ old.reader → Steady old new → Tied space tied new
         → Next h old new e
     next_wrote call step h old new e tells since writer reader steady ties =
         subst (Next h old new) (sym (event_is e tells.call_is tells.reply_is refl tells.taken_is)) (
           arrived old new (h ++ (event call done e.sent [] ∷ [])) step.state (view old.reader) (slots old.channel ++ map became e.sent) since
               writer (ap view reader) (sym (tells.slots_are ∙ ap (λ (taken : List Slot). taken ++ slots new.channel) tells.taken_is)) steady ties,
-          since_law old.fasb width value (verdict old.service) made since reach sized detects,
+          since_law old.terms.fasb width value (verdict old.terms.service) made since reach sized detects,
         )
 
     pub next_opening : (n : ℕ) (r : Result SuperframeToken OpenFault) (old new : Flow C K S)
@@ -167,7 +167,7 @@ module _
         let shut : st.opened ≡ false = not-true st.opened yes.0 in
         let some : 0 < n = leb-true 1 n (and_parts (leb 1 n) (leb n 200) yes.1.0).0 in
         next_wrote (history.opening n) (opening n st) h old new e tells
-        (since_opening old.fasb width value (verdict old.service) made was.0 n e.sent shut some tells.sent_is tells.made_so)
+        (since_opening old.terms.fasb width value (verdict old.terms.service) made was.0 n e.sent shut some tells.sent_is tells.made_so)
         a.leaves a.reader_stays a.steady (a.ties was.1)
     next_opening n (Err f) old new a h was e tells = next_refused (history.opening n) (open_number f) None h old new a.same was e tells
 
@@ -176,12 +176,12 @@ module _
         → (e : Event) → Tells (offer p) (offer_reply r) (if_accepted r (offering (p ++ value p) (state_of old.writer)).puts) [] old new e → Next h old new e
     next_offer token p (Ok x) old new a h was e tells =
         let st = state_of old.writer in
-        let yes = all_yes (offer_questions token.flow old.id old.fasb width (verdict old.service p) p st) (sym a.asked) in
+        let yes = all_yes (offer_questions token.flow old.id old.terms.fasb width (verdict old.terms.service p) p st) (sym a.asked) in
         let long = and_parts (leb 1 (length p)) (leb (length p) 2044) yes.1.0 in
         next_wrote (offer p) (offering (p ++ value p) st) h old new e tells
-        (since_offer old.fasb width value (verdict old.service) made was.0 p e.sent sized (leb-true 1 (length p) long.0) (leb-true (length p) 2044 long.1)
-        (none_some (verdict old.service p) yes.1.1.0)
-        (leb-true (cond old.fasb 1 (length p + width)) (free st.left st.begun) yes.1.1.1.0) tells.sent_is tells.made_so)
+        (since_offer old.terms.fasb width value (verdict old.terms.service) made was.0 p e.sent sized (leb-true 1 (length p) long.0) (leb-true (length p) 2044 long.1)
+        (none_some (verdict old.terms.service p) yes.1.1.0)
+        (leb-true (cond old.terms.fasb 1 (length p + width)) (free st.left st.begun) yes.1.1.1.0) tells.sent_is tells.made_so)
         a.leaves a.reader_stays a.steady (a.ties was.1)
     next_offer token p (Err f) old new a h was e tells = next_refused (offer p) (offer_number f) (inside f) h old new a.same was e tells
 
@@ -190,7 +190,7 @@ module _
         → (e : Event) → Tells history.closing (closing_reply r) (if_accepted r (closing (state_of old.writer)).puts) [] old new e → Next h old new e
     next_closing token (Ok x) old new a h was e tells =
         next_wrote history.closing (closing (state_of old.writer)) h old new e tells
-        (since_closing old.fasb width value (verdict old.service) made was.0 e.sent tells.sent_is tells.made_so)
+        (since_closing old.terms.fasb width value (verdict old.terms.service) made was.0 e.sent tells.sent_is tells.made_so)
         a.leaves a.reader_stays a.steady (a.ties was.1)
     next_closing token (Err f) old new a h was e tells = next_refused history.closing (close_number f) None h old new a.same.0 was e tells
 
@@ -200,12 +200,12 @@ module _
     next_reading before after (Ok x) old new a h was e tells =
         let o = outcome slots width old in
         let due_event : Event = event history.reading (answers (due slots width value verdict old)) [] o.taken in
-        let since = since_reading old.fasb width value (verdict old.service) made was.0 (slots new.channel) a.takes in
+        let since = since_reading old.terms.fasb width value (verdict old.terms.service) made was.0 (slots new.channel) a.takes in
         subst (Next h old new)
         (sym (event_is e tells.call_is (tells.reply_is ∙ ap answers a.says) (none_sent e.sent tells.sent_is) tells.taken_is)) (
           arrived old new (h ++ (due_event ∷ [])) (state_of old.writer) o.reader (slots new.channel) since
               (ap state_of a.writer_stays) a.leaves refl a.steady (a.ties was.1),
-          since_law old.fasb width value (verdict old.service) made since reach sized detects,
+          since_law old.terms.fasb width value (verdict old.terms.service) made since reach sized detects,
         )
     next_reading before after (Err f) old new a h was e tells = next_refused history.reading (number f) None h old new a.same.0 was e tells
 
@@ -258,13 +258,13 @@ module _
         happened history.reading (reading_reply r after) [] (if_accepted r (outcome slots width old).taken) h old new
         (event_reading before after r old new a) (next_reading before after r old new a h was)
 
-    pub happened_new : (channel : C) (checksum : K) (service : S) (id : ℕ) (fasb : Bool) (new : Flow C K S)
-        → SetUp space tied channel checksum service id fasb new → slots channel ≡ [] → tied channel
-        → Of [] new × RunLaw fasb width reach value []
-    happened_new channel checksum service id fasb new a empty ties =
-        let since = since_new new.fasb width value (verdict new.service) made in
+    pub happened_new : (channel : C) (terms : Terms K S) (id : ℕ) (new : Flow C K S)
+        → SetUp space tied channel terms id new → slots channel ≡ [] → tied channel
+        → Of [] new × RunLaw terms.fasb width reach value []
+    happened_new channel terms id new a empty ties =
+        let since = since_new new.terms.fasb width value (verdict new.terms.service) made in
         let base =
-        subst (λ x. Since new.fasb width value (verdict new.service) made [] x (view new.reader) (slots new.channel)) (sym a.writer_is)
-        (subst (λ x. Since new.fasb width value (verdict new.service) made [] idle x (slots new.channel)) (sym a.reader_is)
-        (subst (λ x. Since new.fasb width value (verdict new.service) made [] idle new_reader x) (sym (ap slots a.channel_is ∙ empty)) since)) in
-        ((base, a.ties ties), since_law fasb width value (verdict new.service) made (since_new fasb width value (verdict new.service) made) reach sized detects)
+        subst (λ x. Since new.terms.fasb width value (verdict new.terms.service) made [] x (view new.reader) (slots new.channel)) (sym a.writer_is)
+        (subst (λ x. Since new.terms.fasb width value (verdict new.terms.service) made [] idle x (slots new.channel)) (sym a.reader_is)
+        (subst (λ x. Since new.terms.fasb width value (verdict new.terms.service) made [] idle new_reader x) (sym (ap slots a.channel_is ∙ empty)) since)) in
+        ((base, a.ties ties), since_law terms.fasb width value (verdict new.terms.service) made (since_new terms.fasb width value (verdict new.terms.service) made) reach sized detects)

@@ -5,7 +5,7 @@ use Rattle.std.proofs.ByRecursion.{All-push}
 use Rattle.std.proofs.lemmas.List.{append-nil, length-append, length-take, length-drop, length-replicate, take-append-drop, nil_from_length}
 use Rattle.std.proofs.lemmas.Bool.{cond-true, cond-false, eq-eqb, ne_eqb, eqb-true, le-leb, cases_eq}
 use Rattle.framing.specs.Judging.{stays_within, judgment, lawful}
-use Rattle.runlaw.proofs.Folds.{joined_append}
+use Rattle.std.proofs.lemmas.Grind.{flat_map-append}
 use Rattle.flow.specs.Carrying.{Part, parts_in, so_far, begun_after, packets_of, CutAtEnd, counted}
 use Rattle.flow.specs.Cutting.{size, grown, uncut, closed, padded}
 use Rattle.flow.proofs.Cuts.{length_grown, uncut_none}
@@ -185,7 +185,7 @@ module _ (begun bytes : List ℕ) (u : Unfinished begun) (any : 0 < length bytes
   grown_is =
       ap (λ (b : List ℕ). b ++ laid_one (next begun bytes)) u.laid_is
       ∙ ap (λ (r : List ℕ). laid u.row ++ r) (sym (append-nil (laid_one (next begun bytes))))
-      ∙ sym (joined_append laid_one u.row (next begun bytes ∷ []))
+      ∙ sym (flat_map-append laid_one u.row (next begun bytes ∷ []))
 
   -- it stays in the unfinished frame
   pub next_within : length (grown begun bytes) < 121 → Unfinished (grown begun bytes)

@@ -1,11 +1,8 @@
-pub mod Frames
 pub mod States
 pub mod Cuts
-pub mod Filled
 pub mod Sends
 pub mod Pads
 pub mod Ties
-pub mod Joined
 pub mod Parsing
 pub mod Packets
 pub mod Lawful
@@ -16,3 +13,4 @@ pub mod Shows
 pub mod Readings
 pub mod Since
 pub mod Happens
+pub mod Ending

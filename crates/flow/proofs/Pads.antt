@@ -1,6 +1,6 @@
 -- Laws of the padding at a superframe's end.
-use Rattle.std.proofs.Common.{◌≡◌, ℕ, zero, suc, ◌-◌, ◌<◌, List, [], ◌∷◌, ◌++◌, map, length, sym, refl, ap, ◌∙◌, subst, ap₂, arith}
-use Rattle.std.proofs.lemmas.List.{append-nil, append_assoc, map-append}
+use Rattle.std.proofs.Common.{◌≡◌, ℕ, zero, suc, ◌+◌, ◌-◌, ◌<◌, List, [], ◌∷◌, ◌++◌, map, length, take, drop, replicate, sym, refl, ap, ◌∙◌, subst, ap₂, arith}
+use Rattle.std.proofs.lemmas.List.{append-nil, append_assoc, map-append, length-append, drop-replicate, length-replicate, take_all}
 use Rattle.framing.specs.declared.slot.Slot.{Slot}
 use Rattle.channel.specs.Sending.{Put, a_frame, a_mark}
 use Rattle.flow.specs.Cutting.{padded, paddings}
@@ -24,6 +24,17 @@ pub paddings_count : (k : ℕ) (begun : List ℕ) → length (paddings k begun) 
 unfolding paddings
 paddings_count zero begun = refl
 paddings_count (suc k) begun = ap suc (paddings_count k [])
+
+-- the padding header behind what is begun, and zeros to the end of the frame
+pub padded_is : (begun pushed : List ℕ) (header n : ℕ) → header ≡ 127 → pushed ≡ begun ++ header ∷ [] → n ≡ length pushed
+    → pushed ++ take (122 - n) (drop n (replicate 122 0)) ≡ padded begun
+padded_is begun pushed header n h p e =
+    let long : n ≡ length begun + 1 = e ∙ ap length p ∙ length-append begun (header ∷ []) in
+    ap₂ (λ (front zeros : List ℕ). front ++ zeros) (p ∙ ap (λ (b : ℕ). begun ++ b ∷ []) h)
+    (ap (take (122 - n)) (drop-replicate n 122 0)
+    ∙ take_all (122 - n) (replicate (122 - n) 0) (omega (arith, length-replicate {A = ℕ} (122 - n) 0))
+    ∙ ap (λ (m : ℕ). replicate (122 - m) 0) long)
+    ∙ append_assoc begun (127 ∷ []) (replicate (122 - (length begun + 1)) 0)
 
 -- a superframe that is being filled with padding: the frames put so far, and those to come
 pub record Padding

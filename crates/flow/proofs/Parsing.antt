@@ -1,15 +1,16 @@
 -- Parsing what was laid: the fragments of a frame are those that were cut into it, and the frame is lawful.
-use Rattle.std.proofs.Common.{◌≡◌, ℕ, zero, suc, ◌+◌, ◌-◌, ◌<◌, ◌≤◌, Bool, true, false, cond, not, ◌||◌, eqb, leb, ◌⊎◌, List, [], ◌∷◌, ◌++◌, map, length, take, replicate, Some, None, Option, sym, refl, ap, ◌∙◌, ap₂, ⊎_elim, arith}
+use Rattle.std.proofs.Common.{◌≡◌, ℕ, zero, suc, ◌+◌, ◌-◌, ◌<◌, ◌≤◌, Bool, true, false, cond, not, ◌||◌, eqb, leb, ◌⊎◌, List, [], ◌∷◌, ◌++◌, map, length, take, replicate, None, Option, sym, refl, ap, ◌∙◌, ap₂, ⊎_elim, arith}
 use Rattle.std.specs.List.{flat_map, AllByRecursion}
 use Rattle.std.proofs.lemmas.List.{append-nil, append_assoc, map-append, length-append, length-replicate, take_at, drop_at}
-use Rattle.std.proofs.lemmas.Bool.{cases_eq, cond-true, cond-false, eq-eqb, ne_eqb, le-leb, lt-ltb, or_left, or_right}
+use Rattle.std.proofs.lemmas.Bool.{cases_eq, cond-false, eq-eqb, ne_eqb, le-leb, lt-ltb, or_left, or_right}
 use Rattle.framing.specs.Header.{count_of, last_of, byte_of, Header, headers_from}
 use Rattle.framing.specs.Judging.{Question, ask, first_no, all_zero, none_open, stays_within, questions, padding_questions, notional_questions, body_questions, judgment_of, judgment, after_first, Judgment, lawful}
 use Rattle.framing.specs.Fragments.{Fragment, body, fragment_of}
 use Rattle.framing.proofs.Coming.{body_is}
-use Rattle.framing.proofs.Rendered.{AllYes}
 use Rattle.framing.proofs.Walks.{past_body}
-use Rattle.runlaw.proofs.Folds.{joined_append}
+use Rattle.std.proofs.lemmas.Grind.{flat_map-append}
+use Rattle.runlaw.proofs.Fates.{no_headers}
+use Rattle.runlaw.proofs.Rows.{none_refused}
 use Rattle.flow.specs.Carrying.{Part, part_of, parts_in}
 use Rattle.flow.specs.Keeping.{laid, Sized}
 
@@ -73,7 +74,7 @@ parts_laid qs rest sized =
     let later = headers_from (1 + length (laid qs)) 0 rest in
     ap (λ (hs : List Header). flat_map part_of (map fragment_of hs)) (headers_laid 1 qs rest sized)
     ∙ ap (flat_map part_of) (map-append fragment_of (heads 1 qs rest) later)
-    ∙ joined_append part_of (map fragment_of (heads 1 qs rest)) (map fragment_of later)
+    ∙ flat_map-append part_of (map fragment_of (heads 1 qs rest)) (map fragment_of later)
     ∙ ap (λ (r : List Part). r ++ parts_from (1 + length (laid qs)) rest) (parts_again 1 qs rest sized)
 
 pub parts_laid_alone : (qs : List Part) → AllByRecursion Sized qs → parts_in (laid qs) ≡ qs
@@ -90,10 +91,6 @@ Fitting width gathered place (q ∷ qs) =
     × ((q.ends ≡ true) ⊎ (place + length q.bytes ≡ 122))
     × (place ≡ 1 → stays_within width gathered (length q.bytes) ≡ true)
     × Fitting width gathered (place + 1 + length q.bytes) qs
-
-none_no : (qs : List Question) → AllYes qs → first_no qs ≡ None
-none_no [] y = refl
-none_no (q ∷ qs) y = cond-true q.yes (first_no qs) (Some q.number) y.0 ∙ none_no qs y.1
 
 unless_first : (place : ℕ) (b : Bool) → (place ≡ 1 → b ≡ true) → (not (eqb place 1) || b) ≡ true
 unless_first place b first =
@@ -120,7 +117,7 @@ passes width gathered place q more sized inside end within =
     let marked : (last_of h.byte || eqb (place + count_of h.byte) 122) ≡ true =
     ⊎_elim (λ (e : q.ends ≡ true). or_left _ _ (last ∙ e)) (λ (e : place + n ≡ 122). or_right (last_of h.byte) _ (eq-eqb _ _ (omega (arith, count)))) end in
     ap (λ (qs : List Question). first_no (ask 11 (leb (count_of h.byte) 121 || eqb (count_of h.byte) 127) ∷ qs)) kind
-    ∙ none_no (ask 11 (leb (count_of h.byte) 121 || eqb (count_of h.byte) 127) ∷ body_questions width gathered h) (
+    ∙ none_refused (ask 11 (leb (count_of h.byte) 121 || eqb (count_of h.byte) 127) ∷ body_questions width gathered h) (
       or_left _ _ few,
       (
         le-leb _ _ (omega (arith, count)),
@@ -147,18 +144,9 @@ judged_laid width gathered qs rest sized fit =
 
 -- 4. What stands at a frame's end: nothing, a notional packet, or padding.
 
-pub notional_no_part : (place : ℕ) → parts_from place (128 ∷ []) ≡ []
-notional_no_part place = refl
-
 pub notional_judged : (width : ℕ) (gathered : Option ℕ) (place : ℕ) → place ≡ 122
     → (judgment_of width gathered (headers_from place 0 (128 ∷ []))).verdict ≡ lawful
 notional_judged width gathered place e = ap (λ (p : ℕ). (judgment_of width gathered (headers_from p 0 (128 ∷ []))).verdict) e
-
--- behind a body that runs past the end there is no header
-past_end : (place n : ℕ) (rest : List ℕ) → length rest ≤ n → headers_from place n rest ≡ []
-past_end place n [] short = refl
-past_end place zero (b ∷ rest) short = absurd (omega arith)
-past_end place (suc n) (b ∷ rest) short = past_end (place + 1) n rest (omega arith)
 
 zeros_all : (n : ℕ) → all_zero (replicate n 0) ≡ true
 zeros_all zero = refl
@@ -168,7 +156,7 @@ padding_headers : (place : ℕ) → 1 ≤ place → headers_from place 0 (127 �
 padding_headers place some =
     let short : length (replicate (122 - place) 0) ≤ 127 = simp length-replicate (omega arith) in
     ap (λ (hs : List Header). record { place = place; byte = 127; following = replicate (122 - place) 0 } ∷ hs)
-    (past_end (place + 1) 127 (replicate (122 - place) 0) short)
+    (no_headers (place + 1) 127 (replicate (122 - place) 0) short)
 
 pub padding_no_part : (place : ℕ) → 1 ≤ place → parts_from place (127 ∷ replicate (122 - place) 0) ≡ []
 padding_no_part place some = ap (λ (hs : List Header). flat_map part_of (map fragment_of hs)) (padding_headers place some)
@@ -179,5 +167,5 @@ padding_judged width gathered place some inside first =
     let h : Header = record { place = place; byte = 127; following = replicate (122 - place) 0 } in
     ap (λ (hs : List Header). (judgment_of width gathered hs).verdict) (padding_headers place some)
     ∙ ap (λ (a : Option ℕ). (after_first a h (judgment_of width gathered [])).verdict)
-    (none_no (ask 11 true ∷ padding_questions gathered h)
+    (none_refused (ask 11 true ∷ padding_questions gathered h)
     (refl, (refl, (lt-ltb _ _ inside, (zeros_all (122 - place), (unless_first place (none_open gathered) (λ e. ap none_open (first e)), tt))))))

@@ -5,7 +5,7 @@ use Rattle.framing.specs.declared.slot.Slot.{Slot}
 use Rattle.framing.specs.declared.slot.Slot.TheVariants.{Frame, Gap, Mark}
 use Rattle.framing.specs.Fragments.{Fragment, fragments}
 use Rattle.framing.specs.Judging.{Verdict, lawful, torn}
-use Rattle.receiver.specs.Reading.{Standing, Reader, Told, packet, listed, completed, completes, after_one, after_all, after_frame, told_of_frame, after_slot, number_after, told_of_slot, told_of, standing_after, verdict_on, next_number, Found, found_or, first_completed, Outcome, behind, or_on, of_frame, reading_slots, reading}
+use Rattle.receiver.specs.Reading.{Standing, Reader, Told, packet, listed, completed, completes, after_one, after_all, after_frame, told_of_frame, after_slot, number_after, told_of_slot, told_of, standing_after, verdict_on, next_number, Found, found_or, first_completed, Outcome, or_on, of_frame, reading_slots, reading}
 use Rattle.receiver.specs.Reading as tells
 use Rattle.receiver.specs.Answering.{answer_to, nothing, short, handed_out, quality}
 use Rattle.runlaw.specs.History.{told_by_answer}

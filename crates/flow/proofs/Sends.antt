@@ -1,19 +1,16 @@
 -- Puts in a row, and a cutting on its way.
-use Rattle.std.proofs.Common.{◌≡◌, ℕ, ◌+◌, ◌-◌, List, [], ◌∷◌, ◌++◌, map, length, take, drop, Result, sym, ap, ◌∙◌, subst, arith}
-use Rattle.std.proofs.lemmas.List.{append-nil, append_assoc, map-append, length-append, take_rest, drop-drop}
+use Rattle.std.proofs.Common.{◌≡◌, ℕ, List, [], ◌∷◌, ◌++◌, map, Result, sym, ap, ◌∙◌, subst, arith}
+use Rattle.std.proofs.lemmas.List.{append-nil, append_assoc, map-append, length-append}
 use Rattle.framing.specs.declared.slot.Slot.{Slot}
 use Rattle.channel.specs.declared.channel.Full.{Full}
 use Rattle.channel.specs.Answers.{PutAnswer}
 use Rattle.channel.specs.Sending.{Put, a_frame}
-use Rattle.channel.proofs.Sends.{went_none, went_join, went_put}
+use Rattle.channel.proofs.Sends.{went_join, went_put}
 use Rattle.flow.specs.Cutting.{Cut, cut, behind, uncutted}
 use Rattle.flow.specs.Sending.{Puts}
 use Rattle.flow.specs.Writing.{State, Cutted}
 
 module _ {C : Type 0} (slots : C → List Slot) (space : C → ℕ) (made : List ℕ → Slot → Type 0) (tied : C → Type 0) where
-  pub puts_none : (old : C) → Puts slots space made tied [] old old
-  puts_none old safe room = (went_none (slots old) (space old), safe)
-
   pub puts_one : (p : Put) (r : Result (Unit {0}) Full) (old new : C) → PutAnswer slots space made tied p r old new → Puts slots space made tied (p ∷ []) old new
   puts_one p r old new put safe room = (went_put r (space old) put.asked (omega arith) (put.joins safe), put.keeps safe)
 
@@ -41,22 +38,18 @@ behind_join fs gs c =
     (sym (append_assoc fs gs c.full))
 
 module _ {C : Type 0} {slots : C → List Slot} {space : C → ℕ} {made : List ℕ → Slot → Type 0} {tied : C → Type 0} where
-  -- one step more, from the index `i` of the bytes: `fs` are the frames that it filled, and `n` the bytes that it cut
+  -- one step more: `fs` are the frames that it filled, and `later` is then still to be cut
   pub underway_more :
-      {whole : Cut} {start at next : State} {old new new' : C} (bytes : List ℕ) (i n : ℕ) (fs : List (List ℕ))
-      → Underway slots space made tied whole start at (drop i bytes) old new
-      → cut at.left at.begun (take (length bytes - i) (drop i bytes))
-      ≡ behind fs (cut next.left next.begun (drop n (take (length bytes - i) (drop i bytes))))
+      {whole : Cut} {start at next : State} {rest later : List ℕ} {old new new' : C} (fs : List (List ℕ))
+      → Underway slots space made tied whole start at rest old new
+      → cut at.left at.begun rest ≡ behind fs (cut next.left next.begun later)
       → next.opened ≡ at.opened
       → Puts slots space made tied (map a_frame fs) new new'
-      → Underway slots space made tied whole start next (drop (i + n) bytes) old new'
-  underway_more {whole} {start} {at} {next} {old} {new} {new'} bytes i n fs u step same puts =
-      let part = take_rest bytes i in
-      let later = drop-drop n i bytes in
-      let cuts : cut at.left at.begun (drop i bytes) ≡ behind fs (cut next.left next.begun (drop (i + n) bytes)) = cc in
+      → Underway slots space made tied whole start next later old new'
+  underway_more {whole} {start} {at} {next} {rest} {later} {old} {new} {new'} fs u cuts same puts =
       record {
         done = u.done ++ fs;
-        cuts = u.cuts ∙ ap (behind u.done) cuts ∙ behind_join u.done fs (cut next.left next.begun (drop (i + n) bytes));
+        cuts = u.cuts ∙ ap (behind u.done) cuts ∙ behind_join u.done fs (cut next.left next.begun later);
         opened = same ∙ u.opened;
         puts =
             subst (λ (ps : List Put). Puts slots space made tied ps old new') (sym (map-append a_frame u.done fs))

@@ -10,7 +10,7 @@ use Rattle.runlaw.specs.History.{History, closing, done, all_sent, packets_accep
 use Rattle.runlaw.specs.Law.{FirstOfWaiting, CarriesPackets}
 use Rattle.runlaw.specs.Packets.{Piece, piece_of, pieces_of, known_start, pieces, grouped, still_begun, as_cut}
 use Rattle.runlaw.specs.Writing.{begun_with, stands_after_all, MarkAllowed, Written}
-use Rattle.runlaw.proofs.Folds.{joined_append}
+use Rattle.std.proofs.lemmas.Grind.{flat_map-append}
 use Rattle.flow.specs.Carrying.{Part, part_of, parts_in, parts_put, so_far, begun_after, ended_by, not_ended, packets_of, counted, WellPut}
 use Rattle.flow.specs.Writing.{State}
 use Rattle.flow.specs.Keeping.{Keeps}
@@ -64,7 +64,7 @@ parts_sent fasb before (sent_frame f x ∷ sent) =
 parts_sent fasb before (sent_mark ∷ sent) = parts_sent fasb (Mark ∷ before) sent
 
 cut_push : (begun : List Piece) (q : Piece) → as_cut (begun ++ q ∷ []) ≡ as_cut begun ++ q.cut
-cut_push begun q = joined_append (λ (p : Piece). p.cut) begun (q ∷ []) ∙ ap (λ (r : List ℕ). as_cut begun ++ r) (append-nil q.cut)
+cut_push begun q = flat_map-append (λ (p : Piece). p.cut) begun (q ∷ []) ∙ ap (λ (r : List ℕ). as_cut begun ++ r) (append-nil q.cut)
 
 groups_are : (begun : List Piece) (at : Option (List ℕ)) → so_far at ≡ as_cut begun → (qs : List Piece) → map as_cut (grouped begun qs) ≡ ended_by at (map part qs)
 groups_are begun at same [] = refl

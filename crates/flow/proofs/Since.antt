@@ -1,15 +1,17 @@
 -- A flow since its set-up, from one call to the next; and the run law of each history.
 use Rattle.std.proofs.Common.{◌≡◌, ℕ, ◌+◌, ◌<◌, ◌≤◌, Bool, false, cond, List, [], ◌∷◌, ◌++◌, map, length, Some, None, Option, sym, refl, ap, ◌∙◌, subst, ap₂, arith}
 use Rattle.std.specs.List.{AllByRecursion}
+use Rattle.std.proofs.ByRecursion.{All-append}
 use Rattle.std.proofs.lemmas.List.{append-nil, append_assoc, map-append, length-append, nil_from_length}
 use Rattle.framing.specs.declared.slot.Slot.{Slot}
 use Rattle.framing.specs.Fragments.{Fragment}
-use Rattle.channel.specs.Sending.{Sent, sent_frame, sent_mark, what, became, AllMade}
+use Rattle.channel.specs.Sending.{Sent, what, became, AllMade}
+use Rattle.channel.proofs.Sends.{all_made_join}
 use Rattle.checksum.specs.Detection.{Detects}
 use Rattle.receiver.specs.Reading.{Reader, new_reader, Told, packet, listed, completes, after_all, aligned, told_of, standing_after, owed, reading}
 use Rattle.receiver.specs.Answering.{Answer, answer_to, nothing}
 use Rattle.runlaw.specs.History as history
-use Rattle.runlaw.specs.History.{Call, Reply, Event, History, offer, refused, done, answers, all_sent, all_taken, Came, packets_accepted, accepted_by, answers_given, told_by, told_by_answer, EndsWith}
+use Rattle.runlaw.specs.History.{Call, Reply, Event, History, offer, refused, done, answers, all_sent, all_taken, Came, packets_accepted, accepted_by, answers_given, told_by}
 use Rattle.runlaw.specs.Law.{RunLaw}
 use Rattle.runlaw.specs.Theorem.{answered, Admitted}
 use Rattle.runlaw.proofs.Events.{one_more, ends_with_last}
@@ -23,15 +25,6 @@ use Rattle.flow.proofs.Readings.{told_append, standing_append, number_append, re
 use Rattle.flow.proofs.Shows.{well_written, carries_packets}
 
 -- 1. One event more.
-
-all_append : {X : Type 0} (P : X → Type 0) (xs ys : List X) → AllByRecursion P xs → AllByRecursion P ys → AllByRecursion P (xs ++ ys)
-all_append P [] ys a b = b
-all_append P (x ∷ xs) ys a b = (a.0, all_append P xs ys a.1 b)
-
-pub all_made_append : (made : List ℕ → Slot → Type 0) (s t : List Sent) → AllMade made s → AllMade made t → AllMade made (s ++ t)
-all_made_append made [] t a b = b
-all_made_append made (sent_frame f x ∷ s) t a b = (a.0, a.1, all_made_append made s t a.2 b)
-all_made_append made (sent_mark ∷ s) t a b = all_made_append made s t a b
 
 sent_more : (h : History) (e : Event) → all_sent (h ++ (e ∷ [])) ≡ all_sent h ++ e.sent
 sent_more h e = one_more (λ e. e.sent) h e
@@ -135,8 +128,8 @@ module _
           let e : Event = event call reply sent [] in
           record {
             came = came_more h e slots (slots ++ map became sent) since.came refl;
-            made_so = subst (AllMade made) (sym (sent_more h e)) (all_made_append made (all_sent h) sent since.made_so made_so);
-            admitted = subst (AllByRecursion (Admitted refusal)) (sym (accepted_more h e)) (all_append (Admitted refusal) (packets_accepted h) (accepted_by call reply) since.admitted admitted);
+            made_so = subst (AllMade made) (sym (sent_more h e)) (all_made_join made (all_sent h) sent since.made_so made_so);
+            admitted = subst (AllByRecursion (Admitted refusal)) (sym (accepted_more h e)) (All-append (Admitted refusal) (packets_accepted h) (accepted_by call reply) since.admitted admitted);
             wrote = keeps_more e s' keeps;
             read =
                 subst (λ given. Read fasb width value refusal given (all_taken (h ++ (e ∷ []))) r)

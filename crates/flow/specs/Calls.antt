@@ -1,6 +1,6 @@
 -- What the calls of a flow do and answer. `slots` is the list of slots that wait on the flow's channel,
 -- `space` the channel's room, `made` what it may make of a frame, and `tied` what ties it to what lies below it.
-use Rattle.std.specs.Prelude.{◌≡◌, ℕ, ◌+◌, ◌≤◌, Bool, true, cond, List, [], ◌++◌, length, IfOk, IfErr, None, Option, Result, OnOk, ◌==◌}
+use Rattle.std.specs.Prelude.{◌≡◌, ℕ, ◌+◌, ◌≤◌, true, cond, List, [], ◌++◌, length, IfOk, IfErr, None, Option, Result, OnOk, ◌==◌}
 use Rattle.framing.specs.declared.slot.Slot.{Slot}
 use Rattle.framing.specs.Judging.{first_no}
 use Rattle.channel.specs.Sending.{Went}
@@ -11,6 +11,7 @@ use Rattle.receiver.specs.Readings.{refusal as reading_refusal}
 use Rattle.receiver.specs.Views.{view}
 use Rattle.receiver.specs.declared.answer.Reading.{Reading}
 use Rattle.receiver.specs.declared.answer.BufferTooShort.{BufferTooShort}
+use Rattle.receiver.specs.declared.terms.Terms.{Terms}
 use Rattle.flow.specs.declared.faults.OpenFault.{OpenFault}
 use Rattle.flow.specs.declared.faults.OfferFault.{OfferFault}
 use Rattle.flow.specs.declared.faults.CloseFault.{CloseFault}
@@ -24,7 +25,7 @@ use Rattle.flow.specs.Writing.{Step, state_of, idle, opening, offering, closing}
 -- What ties a flow to its channel, beside what ties that: while a superframe is open, there is room for the frames of it
 -- that are left and for its mark.
 abbrev pub Tied : {C K S : Type 0} (space : C → ℕ) (tied : C → Type 0) → Flow C K S → Type 0
-Tied space tied f = tied f.channel × (f.writer.opened ≡ true → f.writer.left + 1 ≤ space f.channel)
+Tied space tied f = tied f.channel × ((state_of f.writer).opened ≡ true → (state_of f.writer).left + 1 ≤ space f.channel)
 
 -- The writer has what a step leaves.
 abbrev pub Leaves : {C K S : Type 0} → Step → Flow C K S → Type 0
@@ -39,21 +40,16 @@ Sends slots space made step old new =
 
 -- What no call changes.
 pub record Steady {C K S : Type 0} (old new : Flow C K S) : Type 0 where
-  pub checksum : new.checksum ≡ old.checksum
-  pub service : new.service ≡ old.service
+  pub terms : new.terms ≡ old.terms
   pub id : new.id ≡ old.id
-  pub fasb : new.fasb ≡ old.fasb
 
 -- A new flow has what was handed in; its writer is idle, and its reader aligned, with nothing in hand and no number given.
 -- It is tied where the channel is.
 pub record SetUp
-    {C K S : Type 0} (space : C → ℕ) (tied : C → Type 0) (channel : C) (checksum : K) (service : S) (id : ℕ) (fasb : Bool)
-    (new : Flow C K S) : Type 0 where
+    {C K S : Type 0} (space : C → ℕ) (tied : C → Type 0) (channel : C) (terms : Terms K S) (id : ℕ) (new : Flow C K S) : Type 0 where
   pub channel_is : new.channel ≡ channel
-  pub checksum_is : new.checksum ≡ checksum
-  pub service_is : new.service ≡ service
+  pub terms_is : new.terms ≡ terms
   pub id_is : new.id ≡ id
-  pub fasb_is : new.fasb ≡ fasb
   pub writer_is : state_of new.writer ≡ idle
   pub reader_is : view new.reader ≡ new_reader
   pub ties : tied channel → Tied space tied new
@@ -80,8 +76,8 @@ pub record OfferAnswer
   pub asked :
       refusal offer_number answer
       ≡ first_no
-      (offer_questions token.flow old.id old.fasb width (verdict old.service packet) packet (state_of old.writer))
-  pub inside_is : IfErr answer (λ e. inside e ≡ cond (offer_number e == 6) (verdict old.service packet) None)
+      (offer_questions token.flow old.id old.terms.fasb width (verdict old.terms.service packet) packet (state_of old.writer))
+  pub inside_is : IfErr answer (λ e. inside e ≡ cond (offer_number e == 6) (verdict old.terms.service packet) None)
   pub same : IfErr answer (λ _. new ≡ old)
   pub steady : Steady old new
   pub reader_stays : new.reader ≡ old.reader
@@ -106,12 +102,12 @@ pub record ClosingAnswer
 -- What one reading comes to, by the rules, and the answer that is due.
 
 abbrev pub outcome : {C K S : Type 0} (slots : C → List Slot) (width : ℕ) → Flow C K S → Outcome
-outcome slots width f = reading f.fasb width (view f.reader) (slots f.channel)
+outcome slots width f = reading f.terms.fasb width (view f.reader) (slots f.channel)
 
 abbrev pub due :
     {C K S : Type 0} (slots : C → List Slot) (width : ℕ) (value : List ℕ → List ℕ) (verdict : S → List ℕ → Option ℕ) → Flow C K S
     → Answer
-due slots width value verdict f = answer_to width value (verdict f.service) (outcome slots width f).told
+due slots width value verdict f = answer_to width value (verdict f.terms.service) (outcome slots width f).told
 
 -- A reading, with the buffer as it was and as it is now, under a checksum with this width and this value of each packet, and
 -- the service's verdict on each. It answers what the rules have a reader answer to the slots that wait, and takes the slots

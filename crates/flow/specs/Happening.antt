@@ -49,7 +49,7 @@ abbrev pub HistoryOf :
     {C K S : Type 0} (slots : C → List Slot) (space : C → ℕ) (made : List ℕ → Slot → Type 0) (tied : C → Type 0)
     (width : ℕ) (value : List ℕ → List ℕ) (verdict : S → List ℕ → Option ℕ) → History → Flow C K S → Type 0
 HistoryOf slots space made tied width value verdict h f =
-    Since f.fasb width value (verdict f.service) made h (state_of f.writer) (view f.reader) (slots f.channel)
+    Since f.terms.fasb width value (verdict f.terms.service) made h (state_of f.writer) (view f.reader) (slots f.channel)
     × Tied space tied f
 
 -- The event of a call that had this reply. It is this call with this reply. It sent what the rules have it send, each frame became
@@ -80,6 +80,6 @@ pub record Happened
   pub taken_is : event.taken ≡ takes
   pub slots_are : slots old.channel ++ map became event.sent ≡ event.taken ++ slots new.channel
   pub goes_on : HistoryOf slots space made tied width value verdict (h ++ (event ∷ [])) new
-  pub law : RunLaw old.fasb width reach value (h ++ (event ∷ []))
+  pub law : RunLaw old.terms.fasb width reach value (h ++ (event ∷ []))
   -- all that was sent became the slots that were taken and then those that still wait
   pub came : Came (h ++ (event ∷ [])) (slots new.channel)

@@ -1,5 +1,6 @@
 -- The writing side of a flow: what it holds, and what each call does to it.
-use Rattle.std.specs.Prelude.{◌≡◌, ℕ, Bool, true, false, List, [], ◌∷◌, ◌++◌, map, take, Some, None, Option}
+use Rattle.std.specs.Prelude.{◌≡◌, ℕ, Bool, true, false, List, [], ◌∷◌, ◌++◌, map, is_some, Some, None, Option}
+use Rattle.std.specs.Option.{unwrap_or}
 use Rattle.framing.specs.declared.frame.Frame.{Frame}
 use Rattle.channel.specs.Sending.{Put, a_frame, a_mark}
 use Rattle.flow.specs.declared.writer.Writer.{Writer}
@@ -16,10 +17,10 @@ pub record State : Type 0 where
 abbrev pub state_of : Writer → State
 state_of w =
     record {
-      opened = w.opened;
-      left = w.left;
-      begun = take w.used w.frame.bytes;
-      over = take w.kept w.carried;
+      opened = is_some w.left;
+      left = unwrap_or w.left 0;
+      begun = w.unfinished.bytes.items;
+      over = w.carried.items;
     }
 
 -- What a call comes to: what it leaves, and what it puts.

@@ -6,14 +6,14 @@ use crate::token::SuperframeToken;
 use service::service::NotAdmitted;
 
 /// Why an opening is refused.
-#[derive(Clone, Copy)]
+#[derive(Clone, Copy, PartialEq, Eq, Debug)]
 pub enum OpenFault {
     /// A superframe is open.
-    AlreadyOpen,
+    AlreadyOpen = 1,
     /// The number of frames is not 1 to 200.
-    FrameCount,
+    FrameCount = 2,
     /// The channel has no room for the frames and the mark.
-    NoRoom,
+    NoRoom = 3,
 }
 
 impl OpenFault {
@@ -21,16 +21,12 @@ impl OpenFault {
     pub fn number(self) -> u8
         ensures { result ≡ open_number self }
     {
-        match self {
-            OpenFault::AlreadyOpen => 1,
-            OpenFault::FrameCount => 2,
-            OpenFault::NoRoom => 3,
-        }
+        self as u8
     }
 }
 
 /// Why an offer is refused.
-#[derive(Clone, Copy)]
+#[derive(Clone, Copy, PartialEq, Eq, Debug)]
 pub enum OfferFault {
     /// No superframe is open, or the token is another flow's.
     NotOpenHere,
@@ -66,6 +62,7 @@ impl From<NotAdmitted> for OfferFault {
 }
 
 /// Why a closing is refused. The token comes back.
+#[derive(PartialEq, Eq, Debug)]
 pub enum CloseFault {
     /// No superframe is open, or the token is another flow's.
     WrongToken(SuperframeToken),

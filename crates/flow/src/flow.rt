@@ -12,8 +12,6 @@ ghost use Rattle.flow.specs.Writing.{state_of, opening, offering, closing};
 
 use crate::faults::{CloseFault, OfferFault, OpenFault};
 use crate::joining::with_checksum;
-use crate::padding::finish;
-use crate::placing::{begin, place};
 use crate::token::SuperframeToken;
 use crate::writer::Writer;
 use channel::channel::Channel;
@@ -21,6 +19,7 @@ use checksum::checksum::Checksum;
 use framing::judging::PACKET_MAX;
 use receiver::answer::{BufferTooShort, Reading};
 use receiver::reader::Reader;
+use receiver::terms::Terms;
 use service::service::Service;
 
 /// The most frames that a superframe has.
@@ -29,30 +28,30 @@ const FRAMES_MAX: usize = 200;
 /// One flow of packets over a channel.
 pub struct Flow<C, K, S> {
     channel: C,
-    checksum: K,
-    service: S,
+    terms: Terms<K, S>,
     writer: Writer,
     reader: Reader,
     /// Whoever runs the flows gives each id to one flow only.
     id: u16,
-    /// Whether a packet may be cut across superframes.
-    fasb: bool,
 }
+
+// The clauses name one by one what they take of the channel, the checksum and the service: a record of it would be one more member
+// of each of these traits, for every channel, checksum and service to state.
+//
+// A flow has a reader, as a `Receiver` has, and not a receiver: the writer puts on the same channel, which a receiver keeps to itself.
 
 impl<C: Channel, K: Checksum, S: Service> Flow<C, K, S> {
     /// A flow over `channel`, with no superframe open and nothing carried over.
-    pub fn new(channel: C, checksum: K, service: S, id: u16, fasb: bool) -> Flow<C, K, S>
-        ensures parts { SetUp C.space C.tied channel checksum service id fasb result }
-        ensures runs { C.slots channel ≡ [] → C.tied channel → HistoryOf C.slots C.space C.made C.tied K.width K.value S.verdict [] result × RunLaw fasb K.width K.reach K.value [] }
+    pub fn new(channel: C, terms: Terms<K, S>, id: u16) -> Flow<C, K, S>
+        ensures parts { SetUp C.space C.tied channel terms id result }
+        ensures runs { C.slots channel ≡ [] → C.tied channel → HistoryOf C.slots C.space C.made C.tied K.width K.value S.verdict [] result × RunLaw terms.fasb K.width K.reach K.value [] }
     {
         Flow {
             channel,
-            checksum,
-            service,
+            terms,
             writer: Writer::idle(),
             reader: Reader::new(),
             id,
-            fasb,
         }
     }
 
@@ -74,10 +73,10 @@ impl<C: Channel, K: Checksum, S: Service> Flow<C, K, S> {
     pub fn check_opening(&self, n: usize) -> Result<(), OpenFault>
         ensures { refusal open_number result ≡ first_no (opening_questions n (state_of self.now.writer) (C.space self.now.channel)) }
     {
-        if self.writer.opened {
+        if self.writer.left.is_some() {
             return Err(OpenFault::AlreadyOpen);
         }
-        if n < 1 || n > FRAMES_MAX {
+        if !(1..=FRAMES_MAX).contains(&n) {
             return Err(OpenFault::FrameCount);
         }
         if self.channel.room() < n + 1 {
@@ -86,11 +85,14 @@ impl<C: Channel, K: Checksum, S: Service> Flow<C, K, S> {
         Ok(())
     }
 
+    // Each of the four calls on a history has its answer proved first, in a function of its own: the call then adds what that answer
+    // means for the history.
+
     fn start(&mut self, n: usize) -> Result<SuperframeToken, OpenFault>
         ensures { OpeningAnswer C.slots C.space C.made C.tied n result self.old self.new }
     {
         self.check_opening(n)?;
-        begin(&mut self.channel, &mut self.writer, n as u8);
+        self.writer.begin(&mut self.channel, n as u8);
         Ok(SuperframeToken { flow: self.id })
     }
 
@@ -98,25 +100,25 @@ impl<C: Channel, K: Checksum, S: Service> Flow<C, K, S> {
     pub fn holds(&self, token: &SuperframeToken) -> bool
         ensures { result ≡ (token_question token.now.flow self.now.id (state_of self.now.writer)).yes }
     {
-        self.writer.opened && token.flow == self.id
+        self.writer.left.is_some() && token.flow == self.id
     }
 
     /// Whether an offer of this packet would be accepted, and why not.
     pub fn check_offer(&self, token: &SuperframeToken, packet: &[u8]) -> Result<(), OfferFault>
-        ensures asked { refusal offer_number result ≡ first_no (offer_questions token.now.flow self.now.id self.now.fasb K.width (S.verdict self.now.service packet.now) packet.now (state_of self.now.writer)) }
-        ensures inside { IfErr result (λ e. inside e ≡ (if nat_eq (offer_number e) 6 then S.verdict self.now.service packet.now else None)) }
+        ensures asked { refusal offer_number result ≡ first_no (offer_questions token.now.flow self.now.id self.now.terms.fasb K.width (S.verdict self.now.terms.service packet.now) packet.now (state_of self.now.writer)) }
+        ensures inside { IfErr result (λ e. inside e ≡ (if nat_eq (offer_number e) 6 then S.verdict self.now.terms.service packet.now else None)) }
     {
         if !self.holds(token) {
             return Err(OfferFault::NotOpenHere);
         }
-        if packet.len() < 1 || packet.len() > PACKET_MAX {
+        if !(1..=PACKET_MAX).contains(&packet.len()) {
             return Err(OfferFault::Length);
         }
-        self.service.admit(packet)?;
-        let wanted = if self.fasb {
+        self.terms.service.admit(packet)?;
+        let wanted = if self.terms.fasb {
             1
         } else {
-            packet.len() + self.checksum.value_len()
+            packet.len() + self.terms.checksum.value_len()
         };
         if self.writer.free_bytes() < wanted {
             return Err(OfferFault::NoSpace);
@@ -128,13 +130,10 @@ impl<C: Channel, K: Checksum, S: Service> Flow<C, K, S> {
         ensures { OfferAnswer C.slots C.space C.made C.tied K.width K.value S.verdict token.now packet.now result self.old self.new }
     {
         self.check_offer(token, packet)?;
-        let width = self.checksum.value_len();
-        let bytes = with_checksum(packet, self.checksum.value_of(packet), width);
-        place(
-            &mut self.channel,
-            &mut self.writer,
-            &bytes[0..packet.len() + width],
-        );
+        let width = self.terms.checksum.value_len();
+        let value = self.terms.checksum.value_of(packet);
+        let bytes = with_checksum(packet, &value[..width]);
+        self.writer.place(&mut self.channel, bytes.as_slice());
         Ok(())
     }
 
@@ -144,7 +143,7 @@ impl<C: Channel, K: Checksum, S: Service> Flow<C, K, S> {
         if !self.holds(&token) {
             return Err(CloseFault::WrongToken(token));
         }
-        finish(&mut self.channel, &mut self.writer);
+        self.writer.finish(&mut self.channel);
         let SuperframeToken { flow: _ } = token;
         Ok(())
     }
@@ -152,13 +151,8 @@ impl<C: Channel, K: Checksum, S: Service> Flow<C, K, S> {
     fn read(&mut self, buffer: &mut [u8]) -> Result<Reading, BufferTooShort>
         ensures { ReadingAnswer C.slots C.space C.tied K.width K.value S.verdict buffer.old buffer.new result self.old self.new }
     {
-        self.reader.read(
-            &mut self.channel,
-            &self.checksum,
-            &self.service,
-            self.fasb,
-            buffer,
-        )
+        let terms = self.terms.as_ref();
+        self.reader.read(&mut self.channel, terms, buffer)
     }
 }
 
@@ -200,21 +194,20 @@ impl<C: Channel, K: Checksum, S: Service> Flow<C, K, S> {
     {
         self.read(buffer)
     }
-}
 
-impl<C: Channel, K: Checksum + Drop, S: Service + Drop> Flow<C, K, S> {
     /// Ends the flow, and gives its channel back.
     pub fn into_channel(self) -> C
+    where
+        K: Drop,
+        S: Drop,
         ensures { result ≡ self.channel }
     {
         let Flow {
             channel,
-            checksum: _,
-            service: _,
+            terms: _,
             writer: _,
             reader: _,
             id: _,
-            fasb: _,
         } = self;
         channel
     }

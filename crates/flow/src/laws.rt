@@ -6,8 +6,6 @@ ghost use Rattle.flow.specs.Runs.{WritingLaw};
 /// offered, each followed by its checksum, in the order offered, cut nowhere but at the end of a frame. Every frame has
 /// 122 bytes and is lawful. A superframe of n frames has exactly n frames and one mark. Where packets may not cross
 /// superframes, none crosses a mark.
-pub fn cutting_stands() -> u8
+pub fn cutting_stands()
     ensures { WritingLaw }
-{
-    0
-}
+{}

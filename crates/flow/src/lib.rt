@@ -5,7 +5,6 @@ mod alone;
 mod cutting;
 pub mod faults;
 pub mod flow;
-mod fragment;
 mod holding;
 mod joining;
 pub mod laws;
@@ -14,4 +13,5 @@ mod placing;
 #[cfg(test)]
 mod tests;
 pub mod token;
+mod unfinished;
 mod writer;

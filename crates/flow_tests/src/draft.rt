@@ -23,7 +23,8 @@ pub(crate) fn packet(data: &[u8], len: usize) -> &[u8] {
     }
 }
 
-/// The value of CRC-16, bit by bit: x^16 + x^12 + x^5 + 1, from 0xFFFF, the highest bit of a byte first.
+/// The value of CRC-16, bit by bit: x^16 + x^12 + x^5 + 1, from 0xFFFF, the highest bit of a byte first. It is written out here, and
+/// not taken from the crate `checksum`, so that the flow is compared with another hand's values.
 pub(crate) fn crc16(bytes: &[u8]) -> [u8; 2] {
     let mut register = 0xffffu16;
     for b in bytes {
@@ -79,26 +80,26 @@ impl Draft {
         Ok(())
     }
 
-    /// The number by which an offer is refused, or 0 where it is written down. `string` is the packet and its checksum.
+    /// The number by which an offer is refused, or none where it is written down. `string` is the packet and its checksum.
     pub(crate) fn offer(
         &mut self,
         fasb: bool,
         len: usize,
         string: &[u8],
-    ) -> Result<u8, AllocError> {
-        if len == 0 || len > 2044 {
-            return Ok(5);
+    ) -> Result<Option<u8>, AllocError> {
+        if !(1..=2044).contains(&len) {
+            return Ok(Some(5));
         }
         let before = self.bytes.len();
         if before >= self.limit {
-            return Ok(7);
+            return Ok(Some(7));
         }
         self.write(string)?;
         if !fasb && self.bytes.len() > self.limit {
             self.bytes.truncate(before);
-            return Ok(7);
+            return Ok(Some(7));
         }
-        Ok(0)
+        Ok(None)
     }
 
     /// Fills what is left of the superframe with padding.
@@ -136,7 +137,10 @@ fn by_hand(rt: HostRuntime) -> Result<(), Fail> {
     ] {
         let mut draft = Draft::new(rt.alloc());
         draft.open(n);
-        assert_eq!(rt; draft.offer(false, len, packet(data.as_slice(), len))?, 0);
+        assert_eq!(rt;
+            draft.offer(false, len, packet(data.as_slice(), len))?,
+            None
+        );
         draft.close()?;
         assert_eq!(rt; draft.bytes.as_slice().get(place), Some(&byte));
     }

@@ -7,7 +7,7 @@ use Rattle.framing.specs.Fragments.{Fragment, body, notional, padding, fragments
 use Rattle.framing.specs.Judging.{Verdict, lawful, torn}
 use Rattle.receiver.specs.Accounting.{body_size, bodies, skipped_one, skipped, if_lawful, bodies_in_slot, skipped_in_slot, over_slots, over_told, in_packet, told_dropped, holds, is_gap, is_mark, one_if_torn, is_torn, tells_lost, tells_torn, tells_mark, Accounted}
 use Rattle.receiver.specs.Reading
-use Rattle.receiver.specs.Reading.{Standing, aligned, gathering, seeking, dropped, after_one, after_all, after_frame, completed, listed, Told, packet, verdict_on, next_number, Found, found_or, first_completed, Outcome, behind, or_on, of_frame, reading, reading_slots}
+use Rattle.receiver.specs.Reading.{Standing, aligned, gathering, seeking, dropped, after_one, after_all, after_frame, completed, listed, Told, verdict_on, next_number, Found, found_or, first_completed, Outcome, or_on, of_frame, reading, reading_slots}
 use Rattle.receiver.proofs.Slots.{passes}
 use Rattle.receiver.proofs.Steps.{completing}
 

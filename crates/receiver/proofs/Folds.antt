@@ -8,7 +8,7 @@ use Rattle.framing.specs.Judging.{Verdict, lawful, torn}
 use Rattle.receiver.specs.Answering.{Answer, short, handed_out, quality, answer_to}
 use Rattle.receiver.specs.Folding.{given, Happening, arrive, read, arriving, course, Folds}
 use Rattle.receiver.specs.Reading
-use Rattle.receiver.specs.Reading.{Standing, aligned, after_one, after_all, completed, listed, completes, Told, packet, told_of, told_of_slot, told_of_frame, after_frame, after_slot, number_after, verdict_on, next_number, new_reader, owed, Found, found_or, first_completed, Outcome, behind, or_on, of_frame, reading, reading_slots}
+use Rattle.receiver.specs.Reading.{Standing, after_one, after_all, completed, listed, completes, Told, packet, told_of, told_of_frame, after_frame, verdict_on, next_number, new_reader, owed, Found, found_or, first_completed, Outcome, behind, or_on, of_frame, reading, reading_slots}
 use Rattle.receiver.proofs.Slots.{passes}
 
 -- 1. Going through fragments to the first packet leaves the others to be completed.

@@ -5,4 +5,3 @@ pub mod Handed
 pub mod Limits
 pub mod Slots
 pub mod Steps
-pub mod Copies

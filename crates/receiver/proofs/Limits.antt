@@ -1,16 +1,16 @@
 -- In a lawful frame no packet becomes longer than 2,044 bytes and the checksum's width.
-use Rattle.std.proofs.Common.{◌≡◌, ℕ, zero, suc, ◌+◌, ◌<◌, ◌≤◌, min, Bool, true, false, cond, not, ◌||◌, eqb, leb, ◌⊎◌, List, [], ◌∷◌, ◌++◌, map, length, get_or, take, drop, Some, None, Option, sym, refl, ap, ◌∙◌, subst, inl, inr, arith}
+use Rattle.std.proofs.Common.{◌≡◌, ℕ, zero, suc, ◌+◌, ◌<◌, ◌≤◌, min, Bool, true, false, not, ◌||◌, eqb, leb, ◌⊎◌, List, [], ◌∷◌, ◌++◌, map, length, get_or, take, drop, Some, None, sym, refl, ap, ◌∙◌, subst, inl, inr, arith}
 use Rattle.std.proofs.lemmas.List.{length-append, length-take, length-drop}
 use Rattle.std.proofs.lemmas.Bool.{cases_eq, cases_Bool, cond-true, cond-false, eq-eqb, ne_eqb, eqb-true, leb-true, both_ways, or_cases}
 use Rattle.framing.specs.Header.{count_of, last_of, Header, headers_from}
-use Rattle.framing.specs.Judging.{Question, first_no, questions, padding_questions, notional_questions, body_questions, judgment_of, is_lawful}
-use Rattle.framing.specs.Fragments.{Fragment, body, notional, padding, fragment_of, fragments}
+use Rattle.framing.specs.Judging.{first_no, questions, padding_questions, body_questions, judgment_of, is_lawful}
+use Rattle.framing.specs.Fragments.{Fragment, body, notional, padding, fragment_of, fragments, fragments_from}
 use Rattle.framing.proofs.Coming.{body_is}
-use Rattle.framing.proofs.Rendered.{AllYes, all_yes, lawful_first, asked_notional}
+use Rattle.framing.proofs.Rendered.{kind_asked, lawful_first, asked_notional}
 use Rattle.framing.proofs.Walks.{next_header}
 use Rattle.receiver.specs.Reading.{Standing, aligned, gathering, seeking, dropped, after_one, verdict_on}
 use Rattle.receiver.specs.Accounting.{body_size, bodies}
-use Rattle.receiver.specs.Views.{unread_from, Within}
+use Rattle.receiver.specs.Views.{Within}
 use Rattle.receiver.proofs.Steps.{nothing_past}
 
 -- 1. Bodies lie in the frame, one behind the other.
@@ -39,7 +39,7 @@ sizes_lie place zero (h ∷ rest) =
     let first = one_size (record { place = place; byte = h; following = rest }) in
     omega arith
 
-pub sizes_in : (frame : List ℕ) (at : ℕ) → bodies (unread_from frame at) ≤ length (drop at frame)
+pub sizes_in : (frame : List ℕ) (at : ℕ) → bodies (fragments_from frame at) ≤ length (drop at frame)
 sizes_in frame at = let all = sizes_lie (at + 1) 0 (drop at frame) in omega arith
 
 grows : (r : Standing) (f : Fragment) → dropped (after_one r f) ≤ dropped r + body_size f
@@ -69,13 +69,6 @@ within_more less most r (f ∷ fs) small fits = let first = fits.0 in (omega ari
 
 -- 2. The first fragment of a lawful frame, where a packet is open.
 
-kind_asked : (width : ℕ) (open-bytes : Option ℕ) (h : Header) (qs : List Question) → first_no (questions width open-bytes h) ≡ None
-    → cond (eqb (count_of h.byte) 127) (padding_questions open-bytes h) (cond (eqb (count_of h.byte) 0) (notional_questions h) (body_questions width open-bytes h)) ≡ qs
-    → AllYes qs
-kind_asked width open-bytes h qs none kind =
-    let yes = all_yes (questions width open-bytes h) none in
-    subst (λ (q : List Question). AllYes q) kind yes.1
-
 -- padding may not begin the frame
 no_padding : (width n : ℕ) (h : Header) → first_no (questions width (Some n) h) ≡ None → h.place ≡ 1 → count_of h.byte ≡ 127 → ⊥
 no_padding width n h none first pad =
@@ -100,18 +93,18 @@ first_body width n h none first np nz =
 
 -- 3. Together.
 
-pub short_frame : (width : ℕ) (r : Standing) (frame : List ℕ) → length frame ≡ 122 → dropped r ≡ 0 → (at : ℕ) → Within (2044 + width) r (unread_from frame at)
+pub short_frame : (width : ℕ) (r : Standing) (frame : List ℕ) → length frame ≡ 122 → dropped r ≡ 0 → (at : ℕ) → Within (2044 + width) r (fragments_from frame at)
 short_frame width r frame whole none at =
     let inside = sizes_in frame at in
     let size = length-drop at frame in
-    within_sizes (2044 + width) r (unread_from frame at) (omega arith)
+    within_sizes (2044 + width) r (fragments_from frame at) (omega arith)
 
 -- the first fragment, and then the rest of the frame
 opens : (width : ℕ) (a frame : List ℕ) (h : Header) (next : ℕ) → length frame ≡ 122 → h.place ≡ 1 → first_no (questions width (Some (length a)) h) ≡ None
-    → next ≡ 1 + count_of h.byte → Within (2044 + width) (gathering a) (fragment_of h ∷ unread_from frame next)
+    → next ≡ 1 + count_of h.byte → Within (2044 + width) (gathering a) (fragment_of h ∷ fragments_from frame next)
 opens width a frame h next whole first none moves = go (cases_eq (count_of h.byte) 127) (cases_eq (count_of h.byte) 0)
   where
-    rest : (b : List ℕ) (last : Bool) → (last ≡ true) ⊎ (h.place + count_of h.byte ≡ 122) → Within (2044 + width) (after_one (gathering a) (body h.place b last)) (unread_from frame next)
+    rest : (b : List ℕ) (last : Bool) → (last ≡ true) ⊎ (h.place + count_of h.byte ≡ 122) → Within (2044 + width) (after_one (gathering a) (body h.place b last)) (fragments_from frame next)
     rest b true ends = short_frame width aligned frame whole refl next
     rest b false (inl bad) = absurd (both_ways false refl bad)
     rest b false (inr end) =
@@ -119,7 +112,7 @@ opens width a frame h next whole first none moves = go (cases_eq (count_of h.byt
         subst (λ (fs : List Fragment). Within (2044 + width) (gathering (a ++ b)) fs) (sym (nothing_past frame next past)) tt
 
     go : (count_of h.byte ≡ 127) ⊎ (count_of h.byte ≡ 127 → ⊥) → (count_of h.byte ≡ 0) ⊎ (count_of h.byte ≡ 0 → ⊥)
-        → Within (2044 + width) (gathering a) (fragment_of h ∷ unread_from frame next)
+        → Within (2044 + width) (gathering a) (fragment_of h ∷ fragments_from frame next)
     go (inl pad) _ = absurd (no_padding width (length a) h none first pad)
     go (inr np) (inl nil) =
         let facts = asked_notional width (Some (length a)) h none nil in
@@ -131,7 +124,7 @@ opens width a frame h next whole first none moves = go (cases_eq (count_of h.byt
         let size : length b ≡ min (count_of h.byte) (length h.following) = length-take (count_of h.byte) h.following in
         let small : length a + count_of h.byte ≤ 2044 + width = facts.fits in
         let enough : length a + length b ≤ 2044 + width = omega arith in
-        subst (λ (f : Fragment). Within (2044 + width) (gathering a) (f ∷ unread_from frame next)) (sym (body_is h.place h.byte h.following np nz))
+        subst (λ (f : Fragment). Within (2044 + width) (gathering a) (f ∷ fragments_from frame next)) (sym (body_is h.place h.byte h.following np nz))
         (enough, rest b (last_of h.byte) facts.ends)
 
 pub lawful_within : (width : ℕ) (r : Standing) (frame : List ℕ) → length frame ≡ 122 → is_lawful (verdict_on width r frame) ≡ true → Within (2044 + width) r (fragments frame)

@@ -1,20 +1,22 @@
 -- One reading, slot by slot.
-use Rattle.std.proofs.Common.{◌≡◌, ℕ, ◌+◌, ◌≤◌, Bool, List, [], ◌∷◌, ◌++◌, length, take, Some, None, Option, sym, refl, ap, ◌∙◌, subst, ap₂, arith}
+use Rattle.std.proofs.Common.{◌≡◌, ℕ, ◌+◌, ◌≤◌, Bool, true, false, List, [], ◌∷◌, ◌++◌, length, Some, None, Option, sym, refl, ap, ◌∙◌, subst, ap₂, arith}
 use Rattle.std.proofs.lemmas.List.{append_assoc, length-append}
+use Rattle.channel.specs.Answers.{TakeAnswer}
 use Rattle.framing.specs.declared.slot.Slot.{Slot}
 use Rattle.framing.specs.declared.slot.Slot.TheVariants.{Frame}
-use Rattle.framing.specs.Fragments.{Fragment, fragments}
+use Rattle.framing.specs.Fragments.{Fragment, fragments, fragments_from}
 use Rattle.framing.specs.Judging.{lawful}
 use Rattle.receiver.specs.Reading
-use Rattle.receiver.specs.Reading.{Standing, aligned, gathering, seeking, gathered, dropped, after_one, after_all, completed, Found, found_or, first_completed, Outcome, behind, or_on, of_frame, next_number, verdict_on, reading, reading_slots, packet}
-use Rattle.receiver.specs.Telling.{told_by, Received, Ends}
-use Rattle.receiver.specs.Views.{view, unread_from, standing_in, standing_of, hand_in, found_as, reads_at, Rests, Within}
+use Rattle.receiver.specs.Reading.{Standing, aligned, gathering, seeking, gathered, after_one, after_all, completed, found_or, first_completed, Outcome, behind, or_on, of_frame, next_number, verdict_on, reading, reading_slots}
+use Rattle.receiver.specs.Taking.{Leaves}
+use Rattle.receiver.specs.Telling.{in_rules, Received, Ends}
+use Rattle.receiver.specs.Views.{view, standing_in, standing_of, hand_in, found_as, reads_at, Rests, Within}
 use Rattle.receiver.specs.declared.reader.Reader.{Reader}
 use Rattle.receiver.specs.declared.state.State.{State}
 use Rattle.receiver.specs.declared.state.State.TheVariants.{Aligned, Gathering, Seeking}
 use Rattle.receiver.specs.declared.told.Told.{Told}
 use Rattle.receiver.proofs.Limits.{short_frame}
-use Rattle.receiver.proofs.Steps.{completing, none_some}
+use Rattle.receiver.proofs.Steps.{completing}
 
 -- 1. What a slot comes to.
 
@@ -45,11 +47,12 @@ passes r (f ∷ fs) none = go (completed r f) refl none (passes (after_one r f) 
         let behind_it = later-passes (sym (ap (λ s. s.found) later) ∙ missing) in
         record { stands = ap (λ s. s.standing) later ∙ behind_it.stands; all = ap (λ s. s.unread) later ∙ behind_it.all }
     go (Some p) e missing later-passes =
-        absurd (none_some p (sym missing ∙ ap (λ o. (found_or o (after_one r f) fs (first_completed (after_one r f) fs)).found) e))
+        let there : None ≡ Some p = sym missing ∙ ap (λ o. (found_or o (after_one r f) fs (first_completed (after_one r f) fs)).found) e in
+        cc
 
 -- a packet that is found is no longer than the limit
 pub found_short : (most : ℕ) (r : Standing) (fs : List Fragment) (p : List ℕ) → Within most r fs → (first_completed r fs).found ≡ Some p → length p ≤ most
-found_short most r [] p fits is = absurd (none_some p is)
+found_short most r [] p fits is = cc
 found_short most r (f ∷ fs) p fits is = go (completed r f) refl is (found_short most (after_one r f) fs p fits.1)
   where
     go : (o : Option (List ℕ)) → completed r f ≡ o → (found_or (completed r f) (after_one r f) fs (first_completed (after_one r f) fs)).found ≡ Some p
@@ -73,18 +76,18 @@ pub record Underway (fasb : Bool) (width : ℕ) (whole : Outcome) (old : List Sl
   pub took : old ≡ taken ++ new
   pub gives : whole ≡ prefixed taken (reading fasb width (reads_at r at) new)
   pub rests : Rests r.state at
-  pub fits : Within (2044 + width) (standing_of r) (unread_from r.frame.bytes at)
+  pub fits : Within (2044 + width) (standing_of r) (fragments_from r.frame.bytes at)
 
 -- an aligned reader has at most a frame to come, and any other has nothing in hand
-hand_within : (width : ℕ) (r : Reader) (at : ℕ) → unread_from r.frame.bytes at ≡ hand_in r.state r.frame.bytes → Within (2044 + width) (standing_of r) (unread_from r.frame.bytes at)
+hand_within : (width : ℕ) (r : Reader) (at : ℕ) → fragments_from r.frame.bytes at ≡ hand_in r.state r.frame.bytes → Within (2044 + width) (standing_of r) (fragments_from r.frame.bytes at)
 hand_within width r at hand = go r.state hand
   where
-    go : (s : State) → unread_from r.frame.bytes at ≡ hand_in s r.frame.bytes → Within (2044 + width) (standing_in s r.gathered) (unread_from r.frame.bytes at)
+    go : (s : State) → fragments_from r.frame.bytes at ≡ hand_in s r.frame.bytes → Within (2044 + width) (standing_in s r.gathered.items) (fragments_from r.frame.bytes at)
     go (Aligned next) hand = short_frame width aligned r.frame.bytes r.whole refl at
-    go (Gathering len) hand = subst (λ (fs : List Fragment). Within (2044 + width) (gathering (take len r.gathered)) fs) (sym hand) tt
+    go Gathering hand = subst (λ (fs : List Fragment). Within (2044 + width) (gathering r.gathered.items) fs) (sym hand) tt
     go Seeking hand = subst (λ (fs : List Fragment). Within (2044 + width) seeking fs) (sym hand) tt
 
-pub begins : (fasb : Bool) (width : ℕ) (r : Reader) (at : ℕ) (slots : List Slot) → Rests r.state at → unread_from r.frame.bytes at ≡ hand_in r.state r.frame.bytes
+pub begins : (fasb : Bool) (width : ℕ) (r : Reader) (at : ℕ) (slots : List Slot) → Rests r.state at → fragments_from r.frame.bytes at ≡ hand_in r.state r.frame.bytes
     → Underway fasb width (reading fasb width (view r) slots) slots r at slots
 begins fasb width r at slots rests hand =
     record {
@@ -97,17 +100,17 @@ begins fasb width r at slots rests hand =
 
 -- the frame in hand had no packet more, so the reading goes on with the slots
 read_out : (fasb : Bool) (width : ℕ) (before after : Reader) (at : ℕ) (slots : List Slot)
-    → found_as None after ≡ first_completed (standing_of before) (unread_from before.frame.bytes at) → after.number ≡ before.number
+    → found_as false after ≡ first_completed (standing_of before) (fragments_from before.frame.bytes at) → after.number ≡ before.number
     → reading fasb width (reads_at before at) slots ≡ reading_slots fasb width (standing_of after) after.number slots
 read_out fasb width before after at slots finds counts =
-    let passed = passes (standing_of before) (unread_from before.frame.bytes at) (sym (ap (λ s. s.found) finds)) in
-    let stands : after_all (standing_of before) (unread_from before.frame.bytes at) ≡ standing_of after = sym passed.stands ∙ sym (ap (λ s. s.standing) finds) in
-    ap (λ s. or_on s before.number (reading_slots fasb width (after_all (standing_of before) (unread_from before.frame.bytes at)) before.number slots)) (sym finds)
+    let passed = passes (standing_of before) (fragments_from before.frame.bytes at) (sym (ap (λ s. s.found) finds)) in
+    let stands : after_all (standing_of before) (fragments_from before.frame.bytes at) ≡ standing_of after = sym passed.stands ∙ sym (ap (λ s. s.standing) finds) in
+    ap (λ s. or_on s before.number (reading_slots fasb width (after_all (standing_of before) (fragments_from before.frame.bytes at)) before.number slots)) (sym finds)
     ∙ ap₂ (λ (s : Standing) (n : ℕ). reading_slots fasb width s n slots) stands (sym counts)
 
-pub hand_out : (before after : Reader) (at : ℕ) → found_as None after ≡ first_completed (standing_of before) (unread_from before.frame.bytes at) → hand_in after.state after.frame.bytes ≡ []
+pub hand_out : (before after : Reader) (at : ℕ) → found_as false after ≡ first_completed (standing_of before) (fragments_from before.frame.bytes at) → hand_in after.state after.frame.bytes ≡ []
 hand_out before after at finds =
-    ap (λ s. s.unread) finds ∙ (passes (standing_of before) (unread_from before.frame.bytes at) (sym (ap (λ s. s.found) finds))).all
+    ap (λ s. s.unread) finds ∙ (passes (standing_of before) (fragments_from before.frame.bytes at) (sym (ap (λ s. s.found) finds))).all
 
 ended : (whole : Outcome) (old taken more : List Slot) (told : Option Reading.Told) (r : Reader) (new : List Slot) → old ≡ taken ++ (more ++ new)
     → whole ≡ prefixed taken (record { told = told; reader = view r; taken = more }) → Ends whole old told r new
@@ -118,19 +121,9 @@ ended whole old taken more told r new took gives =
       takes = took ∙ sym (append_assoc taken more new) ∙ ap (λ o. o.taken ++ new) (sym gives);
     }
 
-pub with_packet : (fasb : Bool) (width : ℕ) (whole : Outcome) (old : List Slot) (before after : Reader) (at n : ℕ) (new : List Slot)
-    → Underway fasb width whole old before at new
-    → found_as (Some n) after ≡ first_completed (standing_of before) (unread_from before.frame.bytes at) → after.number ≡ before.number
-    → Ends whole old (Some (packet (take n after.gathered))) after new
-with_packet fasb width whole old before after at n new u finds counts =
-    ended whole old u.taken [] (Some (packet (take n after.gathered))) after new u.took
-    (u.gives
-    ∙ ap (λ s. prefixed u.taken (or_on s before.number (reading_slots fasb width (after_all (standing_of before) (unread_from before.frame.bytes at)) before.number new))) (sym finds)
-    ∙ ap (λ (k : ℕ). prefixed u.taken (record { told = Some (packet (take n after.gathered)); reader = record { standing = standing_of after; number = k; in_hand = hand_in after.state after.frame.bytes }; taken = [] })) (sym counts))
-
 pub with_nothing : (fasb : Bool) (width : ℕ) (whole : Outcome) (old : List Slot) (before after : Reader) (at : ℕ) (new left : List Slot)
     → Underway fasb width whole old before at new
-    → found_as None after ≡ first_completed (standing_of before) (unread_from before.frame.bytes at) → after.number ≡ before.number → new ≡ [] → left ≡ new
+    → found_as false after ≡ first_completed (standing_of before) (fragments_from before.frame.bytes at) → after.number ≡ before.number → new ≡ [] → left ≡ new
     → Ends whole old None after left
 with_nothing fasb width whole old before after at new left u finds counts none stays =
     ended whole old u.taken [] None after left (u.took ∙ ap (λ (l : List Slot). u.taken ++ l) (sym stays))
@@ -142,17 +135,17 @@ with_nothing fasb width whole old before after at new left u finds counts none s
 -- a slot was taken
 pub with_told : (fasb : Bool) (width : ℕ) (whole : Outcome) (old : List Slot) (before between after : Reader) (at : ℕ) (new rest : List Slot) (slot : Slot) (told : Told)
     → Underway fasb width whole old before at new
-    → found_as None between ≡ first_completed (standing_of before) (unread_from before.frame.bytes at) → between.number ≡ before.number → new ≡ slot ∷ rest
-    → Received fasb width between slot (Some told) after → Ends whole old (told_by told after.gathered) after rest
+    → found_as false between ≡ first_completed (standing_of before) (fragments_from before.frame.bytes at) → between.number ≡ before.number → new ≡ slot ∷ rest
+    → Received fasb width between slot (Some told) after → Ends whole old (Some (in_rules told after.gathered.items)) after rest
 with_told fasb width whole old before between after at new rest slot told u finds counts is got =
-    ended whole old u.taken (slot ∷ []) (told_by told after.gathered) after rest (u.took ∙ ap (λ (l : List Slot). u.taken ++ l) is)
+    ended whole old u.taken (slot ∷ []) (Some (in_rules told after.gathered.items)) after rest (u.took ∙ ap (λ (l : List Slot). u.taken ++ l) is)
     (u.gives
     ∙ ap (prefixed u.taken) (read_out fasb width before between at new finds counts
     ∙ ap (reading_slots fasb width (standing_of between) between.number) is ∙ got.0 rest))
 
 pub goes_on_with : (fasb : Bool) (width : ℕ) (whole : Outcome) (old : List Slot) (before between after : Reader) (at : ℕ) (new rest : List Slot) (slot : Slot)
     → Underway fasb width whole old before at new
-    → found_as None between ≡ first_completed (standing_of before) (unread_from before.frame.bytes at) → between.number ≡ before.number → new ≡ slot ∷ rest
+    → found_as false between ≡ first_completed (standing_of before) (fragments_from before.frame.bytes at) → between.number ≡ before.number → new ≡ slot ∷ rest
     → Received fasb width between slot None after → Underway fasb width whole old after 0 rest
 goes_on_with fasb width whole old before between after at new rest slot u finds counts is got =
     record {
@@ -168,11 +161,10 @@ goes_on_with fasb width whole old before between after at new rest slot u finds 
     }
 
 -- the packet found is no longer than it may be
-pub packet_short : (width : ℕ) (before after : Reader) (at n : ℕ) → Within (2044 + width) (standing_of before) (unread_from before.frame.bytes at)
-    → found_as (Some n) after ≡ first_completed (standing_of before) (unread_from before.frame.bytes at) → length (take n after.gathered) ≡ n → n ≤ 2044 + width
-packet_short width before after at n fits finds there =
-    let short = found_short (2044 + width) (standing_of before) (unread_from before.frame.bytes at) (take n after.gathered) fits (sym (ap (λ s. s.found) finds)) in
-    omega arith
+pub packet_short : (width : ℕ) (before after : Reader) (at : ℕ) → Within (2044 + width) (standing_of before) (fragments_from before.frame.bytes at)
+    → found_as true after ≡ first_completed (standing_of before) (fragments_from before.frame.bytes at) → length after.gathered.items ≤ 2044 + width
+packet_short width before after at fits finds =
+    found_short (2044 + width) (standing_of before) (fragments_from before.frame.bytes at) after.gathered.items fits (sym (ap (λ s. s.found) finds))
 
 -- Of the slots that a reading took, `taken` came first, and with one slot more they are `some`: so it did not take none.
 pub took_some : (all some later old taken rest : List Slot) (slot : Slot)
@@ -183,3 +175,13 @@ took_some all some later old taken rest slot is took one none =
     let parts = simp length-append at (ap length one) in
     let empty = ap length none in
     omega arith
+
+-- 4. What the reading leaves of the channel.
+
+pub leaves_itself : {C : Type 0} {space : C → ℕ} {tied : C → Type 0} {taken : List Slot} {channel : C} → Leaves space tied taken channel channel
+leaves_itself = record { frees = omega arith; keeps = λ t. t; untouched = λ none. refl }
+
+pub leaves_on : {C : Type 0} {slots : C → List Slot} {space : C → ℕ} {tied : C → Type 0} {taken : List Slot} {slot : Option Slot} {old between new : C}
+    → TakeAnswer slots space tied slot between new → Leaves space tied taken old between → (taken ≡ [] → new ≡ between) → Leaves space tied taken old new
+leaves_on took left same =
+    record { frees = omega arith; keeps = λ t. took.keeps (left.keeps t); untouched = λ none. same none ∙ left.untouched none }

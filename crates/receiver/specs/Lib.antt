@@ -3,6 +3,6 @@ pub mod Answering
 pub mod Folding
 pub mod Reading
 pub mod Readings
-pub mod States
+pub mod Taking
 pub mod Telling
 pub mod Views

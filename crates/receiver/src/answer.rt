@@ -4,7 +4,7 @@ ghost use Rattle.receiver.specs.Readings.{number as short_number};
 use framing::fault::Torn;
 
 /// What a reading answers. A packet that is handed out stands at the front of the buffer, without its checksum, as received.
-#[derive(Clone, Copy)]
+#[derive(Clone, Copy, PartialEq, Eq, Debug)]
 pub enum Reading {
     /// A packet of this length, whose checksum fits and which the service admits.
     Sound {
@@ -15,6 +15,7 @@ pub enum Reading {
         len: usize,
     },
     /// A packet of this length, whose checksum fits and which the service refuses under this number.
+    // A number and no enum of ours: each service has refusals of its own, and numbers them itself.
     Foreign {
         number: u8,
         len: usize,
@@ -41,7 +42,7 @@ pub enum Reading {
 }
 
 /// The refusal of a reading: the buffer has less than 2,044 bytes, the length of the longest packet.
-#[derive(Clone, Copy)]
+#[derive(Clone, Copy, PartialEq, Eq, Debug)]
 pub struct BufferTooShort;
 
 impl BufferTooShort {

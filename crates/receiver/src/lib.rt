@@ -2,12 +2,12 @@
 #![tactic(auto)]
 
 pub mod answer;
-mod copying;
 mod handing;
 pub mod reader;
 mod reading;
 pub mod receiver;
 mod receiving;
 mod state;
+pub mod terms;
 mod told;
 mod walking;

@@ -1,11 +1,12 @@
-ghost use Rattle.std.specs.Prelude.{◌≡◌, ◌≤◌, [], ◌++◌, length, IfOk, OnErr};
+ghost use Rattle.std.specs.Prelude.{◌≡◌, ◌≤◌, ◌++◌, length, IfOk, OnErr};
 ghost use Rattle.receiver.specs.Readings.{refusal, buffer_question, said, said_length, packet_length, filled, side, comes, due, Reads};
+ghost use Rattle.receiver.specs.Taking.{Leaves};
 ghost use Rattle.receiver.specs.Views.{view};
 
 use crate::answer::{BufferTooShort, Reading};
-use crate::handing::hand_out;
 use crate::reader::Reader;
-use crate::told::Told;
+use crate::terms::Terms;
+use crate::told::{Loss, Told};
 use channel::channel::Channel;
 use checksum::checksum::Checksum;
 use framing::judging::PACKET_MAX;
@@ -17,58 +18,47 @@ impl Reader {
     pub fn read<C: Channel, K: Checksum, S: Service>(
         &mut self,
         channel: &mut C,
-        checksum: &K,
-        service: &S,
-        fasb: bool,
+        terms: Terms<&K, &S>,
         buffer: &mut [u8],
     ) -> Result<Reading, BufferTooShort>
         ensures asks { refusal result ≡ buffer_question (length buffer.old) }
         ensures same { OnErr result ((self.new ≡ self.old) × (channel.new ≡ channel.old) × (buffer.new ≡ buffer.old)) }
-        ensures reads { IfOk result (λ a. Reads fasb K.width K.value (S.verdict service.now) (side (view self.old) (C.slots channel.old) buffer.old) a (side (view self.new) (C.slots channel.new) buffer.new)) }
-        ensures frees { C.space channel.old ≤ C.space channel.new }
-        ensures keeps { C.tied channel.old → C.tied channel.new }
-        ensures untouched { (comes fasb K.width (side (view self.old) (C.slots channel.old) buffer.old)).taken ≡ [] → channel.new ≡ channel.old }
+        ensures reads { IfOk result (λ a. Reads terms.entry.fasb K.width K.value (S.verdict terms.entry.service.now) (side (view self.old) (C.slots channel.old) buffer.old) a (side (view self.new) (C.slots channel.new) buffer.new)) }
+        ensures leaves { Leaves C.space C.tied (comes terms.entry.fasb K.width (side (view self.old) (C.slots channel.old) buffer.old)).taken channel.old channel.new }
     {
         if buffer.len() < PACKET_MAX {
             return Err(BufferTooShort);
         }
-        Ok(self.read_on(channel, checksum, service, fasb, buffer))
+        Ok(self.read_on(channel, terms, buffer))
     }
 
     /// The same, into a buffer that is long enough.
     fn read_on<C: Channel, K: Checksum, S: Service>(
         &mut self,
         channel: &mut C,
-        checksum: &K,
-        service: &S,
-        fasb: bool,
+        terms: Terms<&K, &S>,
         buffer: &mut [u8],
     ) -> Reading
         requires { 2044 ≤ length buffer.old }
-        ensures answers { said result buffer.new ≡ due fasb K.width K.value (S.verdict service.now) (side (view self.old) (C.slots channel.old) buffer.old) }
-        ensures lengths { said_length result ≡ packet_length (due fasb K.width K.value (S.verdict service.now) (side (view self.old) (C.slots channel.old) buffer.old)) }
-        ensures fills { buffer.new ≡ filled (due fasb K.width K.value (S.verdict service.now) (side (view self.old) (C.slots channel.old) buffer.old)) buffer.old }
-        ensures stands { view self.new ≡ (comes fasb K.width (side (view self.old) (C.slots channel.old) buffer.old)).reader }
-        ensures takes { C.slots channel.old ≡ (comes fasb K.width (side (view self.old) (C.slots channel.old) buffer.old)).taken ++ C.slots channel.new }
-        ensures frees { C.space channel.old ≤ C.space channel.new }
-        ensures keeps { C.tied channel.old → C.tied channel.new }
-        ensures untouched { (comes fasb K.width (side (view self.old) (C.slots channel.old) buffer.old)).taken ≡ [] → channel.new ≡ channel.old }
+        ensures answers { said result buffer.new ≡ due terms.entry.fasb K.width K.value (S.verdict terms.entry.service.now) (side (view self.old) (C.slots channel.old) buffer.old) }
+        ensures lengths { said_length result ≡ packet_length (due terms.entry.fasb K.width K.value (S.verdict terms.entry.service.now) (side (view self.old) (C.slots channel.old) buffer.old)) }
+        ensures fills { buffer.new ≡ filled (due terms.entry.fasb K.width K.value (S.verdict terms.entry.service.now) (side (view self.old) (C.slots channel.old) buffer.old)) buffer.old }
+        ensures stands { view self.new ≡ (comes terms.entry.fasb K.width (side (view self.old) (C.slots channel.old) buffer.old)).reader }
+        ensures takes { C.slots channel.old ≡ (comes terms.entry.fasb K.width (side (view self.old) (C.slots channel.old) buffer.old)).taken ++ C.slots channel.new }
+        ensures leaves { Leaves C.space C.tied (comes terms.entry.fasb K.width (side (view self.old) (C.slots channel.old) buffer.old)).taken channel.old channel.new }
     {
-        let width = checksum.value_len() as u8;
-        match self.next_told(channel, fasb, width) {
-            Told::Packet { len } => hand_out(&self.gathered[0..len], checksum, service, buffer),
-            Told::Lost { frame, dropped } => Reading::Lost { frame, dropped },
-            Told::Torn {
-                frame,
-                dropped,
-                torn,
-            } => Reading::Torn {
+        // No checksum is wider than 4 bytes, so nothing is lost.
+        let width = terms.checksum.value_len() as u8;
+        match self.next_told(channel, terms.fasb, width) {
+            Some(Told::Packet) => terms.hand_out(self.gathered.as_slice(), buffer),
+            Some(Told::Lost(Loss { frame, dropped })) => Reading::Lost { frame, dropped },
+            Some(Told::Torn(Loss { frame, dropped }, torn)) => Reading::Torn {
                 frame,
                 dropped,
                 torn,
             },
-            Told::Mark { dropped } => Reading::Mark { dropped },
-            Told::Nothing => Reading::Nothing,
+            Some(Told::Mark { dropped }) => Reading::Mark { dropped },
+            None => Reading::Nothing,
         }
     }
 }

@@ -1,12 +1,14 @@
-ghost use Rattle.std.specs.Prelude.{◌≡◌, ◌≤◌, [], length, IfOk, OnErr};
+ghost use Rattle.std.specs.Prelude.{◌≡◌, length, IfOk, OnErr};
 ghost use Rattle.channel.specs.Asking.{waiting};
 ghost use Rattle.receiver.specs.Folding.{Folds};
 ghost use Rattle.receiver.specs.Reading.{new_reader};
 ghost use Rattle.receiver.specs.Readings.{refusal, buffer_question, side, comes, Reads};
+ghost use Rattle.receiver.specs.Taking.{Leaves};
 ghost use Rattle.receiver.specs.Views.{view};
 
 use crate::answer::{BufferTooShort, Reading};
 use crate::reader::Reader;
+use crate::terms::Terms;
 use channel::channel::Channel;
 use checksum::checksum::Checksum;
 use service::service::Service;
@@ -15,25 +17,20 @@ use service::service::Service;
 #[derive(Drop)]
 pub struct Receiver<C, K, S> {
     channel: C,
-    checksum: K,
-    service: S,
-    /// Whether packets may cross superframes.
-    fasb: bool,
+    terms: Terms<K, S>,
     reader: Reader,
 }
 
 impl<C: Channel, K: Checksum, S: Service> Receiver<C, K, S> {
-    /// A receiver at the beginning: aligned, with nothing in hand. `fasb` says whether packets may cross superframes.
-    pub fn over(channel: C, checksum: K, service: S, fasb: bool) -> Receiver<C, K, S>
-        ensures parts { (result.channel ≡ channel) × (result.checksum ≡ checksum) × (result.service ≡ service) × (result.fasb ≡ fasb) }
+    /// A receiver at the beginning: aligned, with nothing in hand.
+    pub fn over(channel: C, terms: Terms<K, S>) -> Receiver<C, K, S>
+        ensures parts { (result.channel ≡ channel) × (result.terms ≡ terms) }
         ensures begins { view result.reader ≡ new_reader }
         ensures folds { Folds (view result.reader) }
     {
         Receiver {
             channel,
-            checksum,
-            service,
-            fasb,
+            terms,
             reader: Reader::new(),
         }
     }
@@ -43,19 +40,12 @@ impl<C: Channel, K: Checksum, S: Service> Receiver<C, K, S> {
     pub fn read(&mut self, buffer: &mut [u8]) -> Result<Reading, BufferTooShort>
         ensures asks { refusal result ≡ buffer_question (length buffer.old) }
         ensures same { OnErr result ((self.new ≡ self.old) × (buffer.new ≡ buffer.old)) }
-        ensures reads { IfOk result (λ a. Reads self.old.fasb K.width K.value (S.verdict self.old.service) (side (view self.old.reader) (C.slots self.old.channel) buffer.old) a (side (view self.new.reader) (C.slots self.new.channel) buffer.new)) }
-        ensures stays { (self.new.checksum ≡ self.old.checksum) × (self.new.service ≡ self.old.service) × (self.new.fasb ≡ self.old.fasb) }
-        ensures frees { C.space self.old.channel ≤ C.space self.new.channel }
-        ensures keeps { C.tied self.old.channel → C.tied self.new.channel }
-        ensures untouched { (comes self.old.fasb K.width (side (view self.old.reader) (C.slots self.old.channel) buffer.old)).taken ≡ [] → self.new.channel ≡ self.old.channel }
+        ensures reads { IfOk result (λ a. Reads self.old.terms.fasb K.width K.value (S.verdict self.old.terms.service) (side (view self.old.reader) (C.slots self.old.channel) buffer.old) a (side (view self.new.reader) (C.slots self.new.channel) buffer.new)) }
+        ensures stays { self.new.terms ≡ self.old.terms }
+        ensures leaves { Leaves C.space C.tied (comes self.old.terms.fasb K.width (side (view self.old.reader) (C.slots self.old.channel) buffer.old)).taken self.old.channel self.new.channel }
     {
-        self.reader.read(
-            &mut self.channel,
-            &self.checksum,
-            &self.service,
-            self.fasb,
-            buffer,
-        )
+        self.reader
+            .read(&mut self.channel, self.terms.as_ref(), buffer)
     }
 
     /// The room of the channel.
@@ -81,9 +71,7 @@ impl<C: Channel, K: Checksum, S: Service> Receiver<C, K, S> {
     {
         let Receiver {
             channel,
-            checksum: _,
-            service: _,
-            fasb: _,
+            terms: _,
             reader: _,
         } = self;
         channel

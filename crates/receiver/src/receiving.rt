@@ -1,28 +1,30 @@
-ghost use Rattle.std.specs.Prelude.{◌≡◌, ◌≤◌, [], None};
+ghost use Rattle.std.specs.Prelude.{◌≡◌, ◌≤◌, [], IfSome};
+ghost use Rattle.framing.specs.Fragments.{fragments_from};
 ghost use Rattle.receiver.specs.Folding.{Folds};
 ghost use Rattle.receiver.specs.Reading.{gathered as openBytes, dropped as heldBytes, seeking, next_number, after_mark, dropped_at_mark, new_reader, reading};
+ghost use Rattle.receiver.specs.Taking.{Leaves};
 ghost use Rattle.receiver.specs.Telling.{told_by, Received, Ends, Fitting};
-ghost use Rattle.receiver.specs.Views.{view, standing_of, hand_in, unread_from, Rests};
-ghost use Rattle.receiver.specs.declared.told.Told.TheVariants.{Torn as TornFrame};
+ghost use Rattle.receiver.specs.Views.{view, standing_of, hand_in, Rests};
 
 use crate::reader::Reader;
 use crate::state::{READ_OUT, State};
-use crate::told::Told;
+use crate::told::{Loss, Told};
+use arrayvec::ArrayVec;
 use channel::channel::Channel;
-use framing::fault::Torn;
 use framing::frame::Frame;
 use framing::judging::judge;
 use framing::slot::Slot;
 
 impl Reader {
     /// A reader at the beginning: aligned, with nothing in hand.
+    #[tactic(auto, using(crate::proofs::Folds::folds))]
     pub fn new() -> Reader
         ensures begins { view result ≡ new_reader }
         ensures folds { Folds (view result) }
     {
         Reader {
             state: State::Aligned { next: READ_OUT },
-            gathered: [0; 2048],
+            gathered: ArrayVec::new(),
             frame: Frame { bytes: [0; 122] },
             number: 0,
         }
@@ -33,7 +35,8 @@ impl Reader {
         ensures { result ≡ openBytes (standing_of self.now) }
     {
         match self.state {
-            State::Gathering { len } => Some(len),
+            // At most 2,048 bytes are gathered, so nothing is lost.
+            State::Gathering => Some(self.gathered.len() as u16),
             _ => None,
         }
     }
@@ -57,7 +60,7 @@ impl Reader {
     /// The index of the next header in the frame in hand.
     fn hand_at(&self) -> usize
         ensures rests { Rests self.now.state result }
-        ensures unread { unread_from self.now.frame.bytes result ≡ hand_in self.now.state self.now.frame.bytes }
+        ensures unread { fragments_from self.now.frame.bytes result ≡ hand_in self.now.state self.now.frame.bytes }
     {
         match self.state {
             State::Aligned { next } => next,
@@ -65,15 +68,17 @@ impl Reader {
         }
     }
 
-    /// A frame was lost: it is counted, the gathered bytes are dropped, and the reader seeks. Gives the frame's number, and
-    /// how many bytes were dropped.
-    fn lose(&mut self) -> (u16, u16)
-        ensures tells { (result.0 ≡ next_number self.old.number) × (result.1 ≡ heldBytes (standing_of self.old)) }
+    /// A frame did not come through: it is counted, the gathered bytes are dropped, and the reader seeks.
+    fn lose(&mut self) -> Loss
+        ensures tells { (result.frame ≡ next_number self.old.number) × (result.dropped ≡ heldBytes (standing_of self.old)) }
         ensures after { view self.new ≡ record { standing = seeking; number = next_number self.old.number; in_hand = [] } }
     {
-        let dropped = self.held_len();
+        let held = self.held_len();
         self.state = State::Seeking;
-        (self.count(), dropped)
+        Loss {
+            frame: self.count(),
+            dropped: held,
+        }
     }
 
     /// A superframe ended: the numbering begins anew, and where no packet crosses superframes, the gathered bytes are dropped
@@ -92,22 +97,8 @@ impl Reader {
         dropped
     }
 
-    /// A frame is torn, which counts as a gap.
-    fn tear(&mut self, torn: Torn) -> Told
-        ensures tells { result ≡ TornFrame (next_number self.old.number) (heldBytes (standing_of self.old)) torn }
-        ensures after { view self.new ≡ record { standing = seeking; number = next_number self.old.number; in_hand = [] } }
-    {
-        let (frame, dropped) = self.lose();
-        Told::Torn {
-            frame,
-            dropped,
-            torn,
-        }
-    }
-
-    /// Takes a lawful frame in hand, of which there is nothing to tell yet.
-    fn hold(&mut self, frame: Frame) -> Option<Told>
-        ensures quiet { result ≡ None }
+    /// Takes a lawful frame in hand.
+    fn hold(&mut self, frame: Frame)
         ensures same { standing_of self.new ≡ standing_of self.old }
         ensures counts { self.new.number ≡ next_number self.old.number }
         ensures holds { (self.new.frame ≡ frame) × Rests self.new.state 0 }
@@ -117,11 +108,11 @@ impl Reader {
         if let State::Aligned { .. } = self.state {
             self.state = State::Aligned { next: 0 };
         }
-        None
     }
 
-    /// Takes a slot, with nothing in hand: tells what there is to tell of it, or takes a lawful frame in hand. A torn frame
-    /// counts as a gap.
+    /// Takes a slot, with nothing in hand: tells what there is to tell of it, or takes a lawful frame in hand, of which there is
+    /// nothing to tell yet. A torn frame counts as a gap.
+    // Mode and width are handed down and not the terms: frames are judged by these alone, whatever the checksum and the service.
     fn receive(&mut self, slot: Slot, fasb: bool, width: u8) -> Option<Told>
         requires { hand_in self.old.state self.old.frame.bytes ≡ [] }
         ensures { Received fasb width self.old slot result self.new }
@@ -131,36 +122,37 @@ impl Reader {
                 let dropped = self.pass_mark(fasb);
                 Some(Told::Mark { dropped })
             }
-            Slot::Gap => {
-                let (frame, dropped) = self.lose();
-                Some(Told::Lost { frame, dropped })
-            }
+            Slot::Gap => Some(Told::Lost(self.lose())),
             Slot::Frame(frame) => match judge(&frame, self.open_len(), width) {
-                Ok(()) => self.hold(frame),
-                Err(torn) => Some(self.tear(torn)),
+                Ok(()) => {
+                    self.hold(frame);
+                    None
+                }
+                Err(torn) => Some(Told::Torn(self.lose(), torn)),
             },
         }
     }
 
-    /// Goes on, through the frame in hand and then slot by slot, until there is one thing to tell.
-    pub(crate) fn next_told<C: Channel>(&mut self, channel: &mut C, fasb: bool, width: u8) -> Told
+    /// Goes on, through the frame in hand and then slot by slot, until there is one thing to tell, or no slot waits.
+    pub(crate) fn next_told<C: Channel>(
+        &mut self,
+        channel: &mut C,
+        fasb: bool,
+        width: u8,
+    ) -> Option<Told>
         requires { width ≤ 4 }
-        ensures ends { Ends (reading fasb width (view self.old) (C.slots channel.old)) (C.slots channel.old) (told_by result self.new.gathered) self.new (C.slots channel.new) }
-        ensures fits { Fitting width result self.new.gathered }
-        ensures frees { C.space channel.old ≤ C.space channel.new }
-        ensures keeps { C.tied channel.old → C.tied channel.new }
-        ensures untouched { (reading fasb width (view self.old) (C.slots channel.old)).taken ≡ [] → channel.new ≡ channel.old }
+        ensures ends { Ends (reading fasb width (view self.old) (C.slots channel.old)) (C.slots channel.old) (told_by result self.new.gathered.items) self.new (C.slots channel.new) }
+        ensures fits { IfSome result (λ t. Fitting width t self.new.gathered.items) }
+        ensures leaves { Leaves C.space C.tied (reading fasb width (view self.old) (C.slots channel.old)).taken channel.old channel.new }
     {
         let mut at = self.hand_at();
         loop {
-            if let Some(len) = self.advance(at) {
-                return Told::Packet { len };
+            if self.advance(at) {
+                return Some(Told::Packet);
             }
-            let Some(slot) = channel.take() else {
-                return Told::Nothing;
-            };
+            let slot = channel.take()?;
             if let Some(told) = self.receive(slot, fasb, width) {
-                return told;
+                return Some(told);
             }
             at = 0;
         }

@@ -1,27 +1,21 @@
 use framing::fault::Torn;
 
-/// What there is to tell of the slots.
-#[derive(Clone, Copy)]
+/// What a frame costs that did not come through: its number, and how many gathered bytes were dropped.
+#[derive(Clone, Copy, PartialEq, Eq, Debug)]
+pub struct Loss {
+    pub frame: u16,
+    pub dropped: u16,
+}
+
+/// What there is to tell of the slots. Whether a packet is sound is told only where it is handed out.
+#[derive(Clone, Copy, PartialEq, Eq, Debug)]
 pub enum Told {
-    /// A packet was completed. With its checksum it has so many bytes, the first that the reader has gathered.
-    Packet {
-        len: usize,
-    },
-    /// A frame was lost: its number, and how many gathered bytes were dropped.
-    Lost {
-        frame: u16,
-        dropped: u16,
-    },
-    /// A frame is torn: likewise, and why.
-    Torn {
-        frame: u16,
-        dropped: u16,
-        torn: Torn,
-    },
+    /// A packet was completed: with its checksum, it is what the reader has gathered.
+    Packet,
+    /// A frame was lost.
+    Lost(Loss),
+    /// A frame is torn, and why.
+    Torn(Loss, Torn),
     /// A mark ended a superframe: how many gathered bytes were dropped.
-    Mark {
-        dropped: u16,
-    },
-    /// No slot waits, and the frame in hand is read out.
-    Nothing,
+    Mark { dropped: u16 },
 }

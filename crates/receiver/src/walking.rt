@@ -1,107 +1,72 @@
-ghost use Rattle.std.specs.Prelude.{◌≡◌, ◌+◌, ◌<◌, ◌≤◌, ◌∷◌, ◌++◌, length, take, IfSome, if◌then◌else◌, Some, None};
-ghost use Rattle.framing.specs.Giving.{shown};
+ghost use Rattle.std.specs.Prelude.{◌≡◌, ◌+◌, ◌≤◌, [], ◌++◌, length, MatchOption, if◌then◌else◌, true, false};
+ghost use Rattle.arrayvec.specs.ArrayVec.{array_vec_len};
+ghost use Rattle.framing.specs.Fragments.{fragments_from};
 ghost use Rattle.receiver.specs.Reading.{first_completed};
-ghost use Rattle.receiver.specs.Views.{unread_from, standing_of, found_as, Rests, Within, Stepped};
+ghost use Rattle.receiver.specs.Views.{standing_of, found_as, Rests, Within, Stepped};
 ghost use Rattle.receiver.specs.declared.state.State.TheVariants.{Aligned, Gathering};
 
-use crate::copying::copy_all;
 use crate::reader::Reader;
-use crate::state::{READ_OUT, State};
-use framing::fragments::Fragment;
-use framing::frame::Frame;
-use framing::header::{FragmentHeader, PADDING};
+use crate::state::State;
+use arrayvec::ArrayVec;
+use framing::fragments::{Fragment, fragment_at};
 
-/// The fragment whose header stands at `at`, and the index of the next header.
-fn fragment_at(frame: &Frame, at: usize) -> (Fragment<'_>, usize)
-    requires { at < 122 }
-    ensures gives { unread_from frame.now.bytes at ≡ shown result.0 ∷ unread_from frame.now.bytes result.1 }
-    ensures moves { (at < result.1) × (result.1 ≤ 122) }
+/// Puts a body behind what was gathered. The last body of a packet completes it, and the reader is then aligned at the `next`
+/// header; any other leaves it gathering. Gives how the reader stands then, and whether the packet is complete.
+// How the reader stands does not say it: behind a packet that it did not see begin, it is aligned too. Hence a pair.
+fn gather(gathered: &mut ArrayVec<u8, 2048>, body: &[u8], last: bool, next: usize) -> (State, bool)
+    requires { array_vec_len gathered.old + length body.now ≤ 2048 }
+    ensures gathers { gathered.new.items ≡ gathered.old.items ++ body.now }
+    ensures stands { result ≡ (if last then (Aligned next, true) else (Gathering, false)) }
 {
-    let header = FragmentHeader::from_byte(frame.bytes[at]);
-    let place = at + 1;
-    let next = place + (header.count as usize).min(122 - place);
-    match header.count {
-        PADDING => (Fragment::Padding { at: place }, next),
-        0 => (Fragment::Notional { at: place }, next),
-        _ => {
-            let body = &frame.bytes[place..next];
-            let last = header.last;
-            (
-                Fragment::Body {
-                    at: place,
-                    body,
-                    last,
-                },
-                next,
-            )
-        }
-    }
-}
-
-/// Puts a body behind the first `len` gathered bytes. The last body of a packet completes it, and the reader is then aligned
-/// at the `next` header; any other leaves it gathering.
-fn gather(
-    gathered: &mut [u8; 2048],
-    len: u16,
-    body: &[u8],
-    last: bool,
-    next: usize,
-) -> (State, Option<usize>)
-    requires { len + length body.now ≤ 2048 }
-    ensures gathers { take (len + length body.now) gathered.new ≡ take len gathered.old ++ body.now }
-    ensures counts { length (take (len + length body.now) gathered.new) ≡ len + length body.now }
-    ensures stands { result ≡ (if last then (Aligned next, Some (len + length body.now)) else (Gathering (len + length body.now), None)) }
-{
-    let len = len as usize;
-    let end = len + body.len();
-    copy_all(&mut gathered[len..end], body);
+    gathered.try_extend_from_slice(body).unwrap();
     if last {
-        (State::Aligned { next }, Some(end))
+        (State::Aligned { next }, true)
     } else {
-        (State::Gathering { len: end as u16 }, None)
+        (State::Gathering, false)
     }
 }
 
 impl Reader {
-    /// Reads the fragment whose header stands at `at`. Gives the index of the next header, and the length of the packet that
-    /// the fragment completes, if it does: its bytes are then the first gathered ones.
-    fn step(&mut self, at: usize) -> (usize, Option<usize>)
-        requires { (at < 122) × (Within 2048 (standing_of self.old) (unread_from self.old.frame.bytes at)) }
-        ensures { Stepped self.old at result.1 result.0 self.new }
+    /// Reads the fragment whose header stands at `at`, if the frame has one there. Gives the index of the next header, and
+    /// whether the fragment completes a packet, which is then what was gathered.
+    // The walk takes the pair apart at once, and nobody keeps it: a struct would only name it a second time.
+    fn step(&mut self, at: usize) -> Option<(usize, bool)>
+        requires { Within 2048 (standing_of self.old) (fragments_from self.old.frame.bytes at) }
+        ensures { MatchOption result ((fragments_from self.old.frame.bytes at ≡ []) × (self.new ≡ self.old)) (λ r. Stepped self.old at r.1 r.0 self.new) }
     {
-        let (fragment, next) = fragment_at(&self.frame, at);
+        let (fragment, next) = fragment_at(&self.frame.bytes, at)?;
         let (state, completed) = match (self.state, fragment) {
             (State::Aligned { .. }, Fragment::Body { body, last, .. }) => {
-                gather(&mut self.gathered, 0, body, last, next)
+                self.gathered.clear();
+                gather(&mut self.gathered, body, last, next)
             }
-            (State::Gathering { len }, Fragment::Body { body, last, .. }) => {
-                gather(&mut self.gathered, len, body, last, next)
+            (State::Gathering, Fragment::Body { body, last, .. }) => {
+                gather(&mut self.gathered, body, last, next)
             }
-            (State::Gathering { len }, _) => (State::Gathering { len }, None),
-            (State::Seeking, Fragment::Body { last: false, .. }) => (State::Seeking, None),
-            (State::Seeking, Fragment::Notional { .. }) => (State::Seeking, None),
-            _ => (State::Aligned { next }, None),
+            (State::Gathering, _) => (State::Gathering, false),
+            (State::Seeking, Fragment::Body { last: false, .. }) => (State::Seeking, false),
+            (State::Seeking, Fragment::Notional { .. }) => (State::Seeking, false),
+            _ => (State::Aligned { next }, false),
         };
         self.state = state;
-        (next, completed)
+        Some((next, completed))
     }
 
-    /// Reads the frame in hand from the header at `from` on, to the first packet that it completes. Gives the packet's length:
-    /// its bytes are then the first gathered ones.
-    pub(crate) fn advance(&mut self, from: usize) -> Option<usize>
-        requires { (Rests self.old.state from) × (Within 2048 (standing_of self.old) (unread_from self.old.frame.bytes from)) }
-        ensures finds { found_as result self.new ≡ first_completed (standing_of self.old) (unread_from self.old.frame.bytes from) }
-        ensures whole { IfSome result (λ n. length (take n self.new.gathered) ≡ n) }
+    /// Reads the frame in hand from the header at `from` on, to the first packet that it completes, and says whether there is
+    /// one: it is then what was gathered.
+    pub(crate) fn advance(&mut self, from: usize) -> bool
+        requires { (Rests self.old.state from) × (Within 2048 (standing_of self.old) (fragments_from self.old.frame.bytes from)) }
+        ensures finds { found_as result self.new ≡ first_completed (standing_of self.old) (fragments_from self.old.frame.bytes from) }
         ensures same { (self.new.frame ≡ self.old.frame) × (self.new.number ≡ self.old.number) }
     {
+        // Headers lie unevenly, and the index of the next one is what an aligned reader keeps: so the walk is by index.
         let mut at = from;
-        while at < READ_OUT {
-            let (next, completed) = self.step(at);
-            if let Some(len) = completed {
-                return Some(len);
+        while let Some((next, completed)) = self.step(at) {
+            if completed {
+                return true;
             }
             at = next;
         }
-        None
+        false
     }
 }

@@ -1,25 +1,18 @@
-use crate::said::{Said, frame, heard};
+use crate::said::{NOTHING, frame, mark, plain_terms, sound};
 use channel::channel::Channel;
 use channel::ring::Ring;
-use checksum::none::NoChecksum;
+use channel::sending::Outgoing;
+use receiver::answer::BufferTooShort;
 use receiver::reader::Reader;
-use service::plain::Plain;
 use std::process::Abort;
 use std::test::Fail;
 
 /// Whether a buffer has these two bytes and then 0xEE to its end.
 fn holds(buffer: &[u8], first: u8, second: u8) -> bool {
-    for (i, b) in buffer.iter().enumerate() {
-        let expected = match i {
-            0 => first,
-            1 => second,
-            _ => 0xee,
-        };
-        if *b != expected {
-            return false;
-        }
+    match buffer {
+        [a, b, rest @ ..] => *a == first && *b == second && rest.iter().all(|b| *b == 0xee),
+        _ => false,
     }
-    true
 }
 
 /// Two packets and a mark, read into the front of this buffer, which has 3,000 bytes of 0xEE.
@@ -27,22 +20,23 @@ fn reads(rt: &impl Abort, buffer: &mut [u8]) -> Result<(), Fail> {
     let mut memory = [0; 492];
     let mut ring = Ring::new(&mut memory);
     let mut reader = Reader::new();
-    ring.put_frame(&frame([0x82, 0x41, 0x42, 0x81, 0x43, 0x7f], 0, 0))?;
-    ring.put_mark()?;
+    let two_packets = frame([0x82, 0x41, 0x42, 0x81, 0x43, 0x7f], 0, 0);
+    ring.put(&Outgoing::Frame(two_packets))?;
+    ring.put(&Outgoing::Mark)?;
     for (len, answer, first, second) in [
-        (0, Said::Refused, 0xee, 0xee),
-        (2043, Said::Refused, 0xee, 0xee),
-        (2044, Said::Sound(2), 0x41, 0x42),
-        (2043, Said::Refused, 0x41, 0x42),
-        (3000, Said::Sound(1), 0x43, 0x42),
-        (2043, Said::Refused, 0x43, 0x42),
-        (2045, Said::Mark(0), 0x43, 0x42),
-        (3000, Said::Nothing, 0x43, 0x42),
+        (0, Err(BufferTooShort), 0xee, 0xee),
+        (2043, Err(BufferTooShort), 0xee, 0xee),
+        (2044, sound(2), 0x41, 0x42),
+        (2043, Err(BufferTooShort), 0x41, 0x42),
+        (3000, sound(1), 0x43, 0x42),
+        (2043, Err(BufferTooShort), 0x43, 0x42),
+        (2045, mark(0), 0x43, 0x42),
+        (3000, NOTHING, 0x43, 0x42),
     ] {
         assert!(rt; len <= buffer.len());
         let part = &mut buffer[0..len];
         assert_eq!(rt;
-            heard(reader.read(&mut ring, &NoChecksum, &Plain, false, part)),
+            reader.read(&mut ring, plain_terms(false).as_ref(), part),
             answer
         );
         assert!(rt; holds(buffer, first, second));

@@ -1,8 +1,9 @@
-use crate::said::{Said, ask, frame};
+use crate::said::{Answer, NOTHING, ask, frame, lost, mark, sound, torn};
 use channel::fade::Fade;
 use channel::pattern::FadePattern;
 use channel::ring::Ring;
 use channel::sending::{Outgoing, put_all};
+use framing::fault::FrameFault;
 use framing::frame::Frame;
 use receiver::reader::Reader;
 use std::process::Abort;
@@ -14,7 +15,7 @@ fn answers(
     fasb: bool,
     pattern: u8,
     items: &[Outgoing],
-    expected: &[Said],
+    expected: &[Answer],
 ) -> Result<(), Fail> {
     let mut memory = [0; 1230];
     let mut fades = FadePattern::new();
@@ -49,64 +50,44 @@ fn at_a_mark(rt: HostRuntime) -> Result<(), Fail> {
         false,
         0xff,
         &open,
-        &[
-            Said::Mark(242),
-            Said::Sound(2),
-            Said::Sound(1),
-            Said::Nothing,
-        ],
+        &[mark(242), sound(2), sound(1), NOTHING],
     )?;
     answers(
         &rt,
         true,
         0xff,
         &open,
-        &[
-            Said::Mark(0),
-            Said::Sound(244),
-            Said::Sound(1),
-            Said::Nothing,
-        ],
+        &[mark(0), sound(244), sound(1), NOTHING],
     )?;
     answers(
         &rt,
         false,
         0b1111_1101,
         &open,
-        &[
-            Said::Lost(2, 121),
-            Said::Mark(0),
-            Said::Sound(2),
-            Said::Sound(1),
-            Said::Nothing,
-        ],
+        &[lost(2, 121), mark(0), sound(2), sound(1), NOTHING],
     )?;
     answers(
         &rt,
         true,
         0b1111_1101,
         &open,
-        &[
-            Said::Lost(2, 121),
-            Said::Mark(0),
-            Said::Sound(1),
-            Said::Nothing,
-        ],
+        &[lost(2, 121), mark(0), sound(1), NOTHING],
     )
 }
 
 /// What a gap or a torn frame lets go is counted; what is skipped while seeking and a torn frame's own bytes are not.
 #[test]
 fn dropped_bytes(rt: HostRuntime) -> Result<(), Fail> {
-    let torn = Outgoing::Frame(frame([0x85, 1, 2, 3, 4, 5], 0, 0));
+    assert_eq!(rt; FrameFault::MisplacedNotional.number(), 16);
+    let empty = Outgoing::Frame(frame([0x85, 1, 2, 3, 4, 5], 0, 0));
     let items = [
         full(0x79),
         full(0x79),
         full(0x79),
         full(0x79),
-        torn,
+        empty,
         full(0x79),
-        torn,
+        empty,
         two_packets(),
     ];
     answers(
@@ -115,11 +96,11 @@ fn dropped_bytes(rt: HostRuntime) -> Result<(), Fail> {
         0b1111_1011,
         &items,
         &[
-            Said::Lost(3, 242),
-            Said::Torn(5, 0, 16, 7),
-            Said::Torn(7, 0, 16, 7),
-            Said::Sound(1),
-            Said::Nothing,
+            lost(3, 242),
+            torn(5, 0, FrameFault::MisplacedNotional, 7),
+            torn(7, 0, FrameFault::MisplacedNotional, 7),
+            sound(1),
+            NOTHING,
         ],
     )?;
     answers(
@@ -128,10 +109,10 @@ fn dropped_bytes(rt: HostRuntime) -> Result<(), Fail> {
         0b0111_1111,
         &items,
         &[
-            Said::Torn(5, 484, 16, 7),
-            Said::Torn(7, 0, 16, 7),
-            Said::Lost(8, 0),
-            Said::Nothing,
+            torn(5, 484, FrameFault::MisplacedNotional, 7),
+            torn(7, 0, FrameFault::MisplacedNotional, 7),
+            lost(8, 0),
+            NOTHING,
         ],
     )
 }
@@ -152,27 +133,13 @@ fn notional_packets(rt: HostRuntime) -> Result<(), Fail> {
         true,
         0xff,
         &items,
-        &[
-            Said::Sound(241),
-            Said::Sound(120),
-            Said::Sound(2),
-            Said::Sound(1),
-            Said::Mark(0),
-            Said::Nothing,
-        ],
+        &[sound(241), sound(120), sound(2), sound(1), mark(0), NOTHING],
     )?;
     answers(
         &rt,
         true,
         0b1111_1110,
         &items,
-        &[
-            Said::Lost(1, 0),
-            Said::Sound(120),
-            Said::Sound(2),
-            Said::Sound(1),
-            Said::Mark(0),
-            Said::Nothing,
-        ],
+        &[lost(1, 0), sound(120), sound(2), sound(1), mark(0), NOTHING],
     )
 }

@@ -1,46 +1,44 @@
 use channel::channel::Channel;
 use checksum::none::NoChecksum;
+use framing::fault::{FrameFault, Torn};
 use framing::frame::Frame;
 use receiver::answer::{BufferTooShort, Reading};
 use receiver::reader::Reader;
+use receiver::terms::Terms;
 use service::plain::Plain;
 
-/// What a reading answered, as a table has it.
-#[derive(Clone, Copy, PartialEq, Debug)]
-pub(crate) enum Said {
-    Sound(usize),
-    Damaged(usize),
-    /// The service's number, and the length.
-    Foreign(u8, usize),
-    Short,
-    /// The frame's number, and the bytes dropped.
-    Lost(u16, u16),
-    /// The frame's number, the bytes dropped, the question's number, and the header's place.
-    Torn(u16, u16, u8, usize),
-    Mark(u16),
-    Nothing,
-    /// The buffer was too short.
-    Refused,
+/// What a reading answered, or that its buffer was too short.
+pub(crate) type Answer = Result<Reading, BufferTooShort>;
+
+pub(crate) const NOTHING: Answer = Ok(Reading::Nothing);
+
+pub(crate) fn sound(len: usize) -> Answer {
+    Ok(Reading::Sound { len })
 }
 
-pub(crate) fn heard(answer: Result<Reading, BufferTooShort>) -> Said {
-    match answer {
-        Ok(Reading::Sound { len }) => Said::Sound(len),
-        Ok(Reading::Damaged { len }) => Said::Damaged(len),
-        Ok(Reading::Foreign { number, len }) => Said::Foreign(number, len),
-        Ok(Reading::Short) => Said::Short,
-        Ok(Reading::Lost { frame, dropped }) => Said::Lost(frame, dropped),
-        Ok(
-            Reading::Torn {
-                frame,
-                dropped,
-                torn,
-            },
-        ) => Said::Torn(frame, dropped, torn.fault.number(), torn.at),
-        Ok(Reading::Mark { dropped }) => Said::Mark(dropped),
-        Ok(Reading::Nothing) => Said::Nothing,
-        Err(BufferTooShort) => Said::Refused,
-    }
+pub(crate) fn damaged(len: usize) -> Answer {
+    Ok(Reading::Damaged { len })
+}
+
+pub(crate) fn foreign(number: u8, len: usize) -> Answer {
+    Ok(Reading::Foreign { number, len })
+}
+
+pub(crate) fn lost(frame: u16, dropped: u16) -> Answer {
+    Ok(Reading::Lost { frame, dropped })
+}
+
+pub(crate) fn torn(frame: u16, dropped: u16, fault: FrameFault, at: usize) -> Answer {
+    let torn = Torn { fault, at };
+    Ok(Reading::Torn {
+        frame,
+        dropped,
+        torn,
+    })
+}
+
+pub(crate) fn mark(dropped: u16) -> Answer {
+    Ok(Reading::Mark { dropped })
 }
 
 /// A frame with these bytes in front and this last byte, and `fill` between them.
@@ -51,8 +49,16 @@ pub(crate) fn frame(front: [u8; 6], fill: u8, last: u8) -> Frame {
     Frame { bytes }
 }
 
-/// One reading with no checksum and the plain service.
-pub(crate) fn ask<C: Channel>(reader: &mut Reader, channel: &mut C, fasb: bool) -> Said {
-    let mut buffer = [0; 2044];
-    heard(reader.read(channel, &NoChecksum, &Plain, fasb, &mut buffer))
+/// No checksum and the plain service.
+pub(crate) fn plain_terms(fasb: bool) -> Terms<NoChecksum, Plain> {
+    Terms {
+        checksum: NoChecksum,
+        service: Plain,
+        fasb,
+    }
+}
+
+/// One reading on those terms.
+pub(crate) fn ask<C: Channel>(reader: &mut Reader, channel: &mut C, fasb: bool) -> Answer {
+    reader.read(channel, plain_terms(fasb).as_ref(), &mut [0; 2044])
 }

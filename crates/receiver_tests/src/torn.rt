@@ -1,23 +1,37 @@
-use crate::said::{Said, frame, heard};
+use crate::said::{Answer, NOTHING, ask, frame, sound};
 use channel::channel::Channel;
 use channel::ring::Ring;
-use checksum::none::NoChecksum;
+use channel::sending::Outgoing;
+use framing::fault::Torn;
 use framing::frame::Frame;
+use receiver::answer::Reading;
 use receiver::reader::Reader;
-use service::plain::Plain;
 use std::test::Fail;
 
 /// What a new reader answers to this frame, after one that leaves a packet of 121 bytes open, or alone.
-fn first_answer(after_open: bool, frame: &Frame) -> Result<Said, Fail> {
+fn first_answer(after_open: bool, frame: Frame) -> Result<Answer, Fail> {
     let mut memory = [0; 246];
-    let mut buffer = [0; 2044];
     let mut ring = Ring::new(&mut memory);
     let mut reader = Reader::new();
     if after_open {
-        ring.put_frame(&Frame { bytes: [0x79; 122] })?;
+        ring.put(&Outgoing::Frame(Frame { bytes: [0x79; 122] }))?;
     }
-    ring.put_frame(frame)?;
-    Ok(heard(reader.read(&mut ring, &NoChecksum, &Plain, false, &mut buffer)))
+    ring.put(&Outgoing::Frame(frame))?;
+    Ok(ask(&mut reader, &mut ring, false))
+}
+
+/// What is said of a torn frame, as a table has it: its number, the bytes dropped, the question's number, and the header's place.
+fn torn(answer: Answer) -> Option<(u16, u16, u8, usize)> {
+    match answer {
+        Ok(
+            Reading::Torn {
+                frame,
+                dropped,
+                torn: Torn { fault, at },
+            },
+        ) => Some((frame, dropped, fault.number(), at)),
+        _ => None,
+    }
 }
 
 /// Each question at its header's place, for a reader with no packet open and for one with 121 bytes of a packet.
@@ -42,9 +56,9 @@ fn at_its_place(rt: HostRuntime) -> Result<(), Fail> {
         ([0x78, 0, 0, 0, 0, 0], 0, 0x80, 18, 1),
         ([0x81, 0x41, 0x02, 1, 2, 0x7f], 0, 0, 18, 3),
     ] {
-        let torn = frame(front, fill, last);
-        assert_eq!(rt; first_answer(false, &torn)?, Said::Torn(1, 0, number, at));
-        assert_eq!(rt; first_answer(true, &torn)?, Said::Torn(2, 121, number, at));
+        let bad = frame(front, fill, last);
+        assert_eq!(rt; torn(first_answer(false, bad)?), Some((1, 0, number, at)));
+        assert_eq!(rt; torn(first_answer(true, bad)?), Some((2, 121, number, at)));
     }
     Ok(())
 }
@@ -53,10 +67,10 @@ fn at_its_place(rt: HostRuntime) -> Result<(), Fail> {
 #[test]
 fn padding_with_a_packet_open(rt: HostRuntime) -> Result<(), Fail> {
     let padding = frame([0x7f, 0, 0, 0, 0, 0], 0, 0);
-    assert_eq!(rt; first_answer(false, &padding)?, Said::Nothing);
-    assert_eq!(rt; first_answer(true, &padding)?, Said::Torn(2, 121, 15, 1));
+    assert_eq!(rt; first_answer(false, padding)?, NOTHING);
+    assert_eq!(rt; torn(first_answer(true, padding)?), Some((2, 121, 15, 1)));
     let later = frame([0x81, 0x41, 0x7f, 0, 0, 0], 0, 0);
-    assert_eq!(rt; first_answer(false, &later)?, Said::Sound(1));
-    assert_eq!(rt; first_answer(true, &later)?, Said::Sound(122));
+    assert_eq!(rt; first_answer(false, later)?, sound(1));
+    assert_eq!(rt; first_answer(true, later)?, sound(122));
     Ok(())
 }

@@ -1,29 +1,37 @@
-use crate::said::{Said, frame, heard};
+use crate::said::{Answer, damaged, foreign, frame, sound};
 use channel::channel::Channel;
 use channel::ring::Ring;
+use channel::sending::Outgoing;
 use checksum::checksum::Checksum;
 use checksum::crc16::Crc16;
 use checksum::none::NoChecksum;
+use receiver::answer::Reading;
 use receiver::reader::Reader;
+use receiver::terms::Terms;
 use service::plain::Plain;
 use service::service::Service;
 use service::sync::Sync;
 use std::test::Fail;
 
 /// What is answered to a frame that begins so, with padding where its bytes end, and the first byte of the buffer then.
-fn verdict<K: Checksum, S: Service>(
-    checksum: &K,
-    service: &S,
+fn verdict<K: Checksum + Drop, S: Service + Drop>(
+    checksum: K,
+    service: S,
     front: [u8; 6],
-) -> Result<(Said, u8), Fail> {
+) -> Result<(Answer, u8), Fail> {
     let mut memory = [0; 123];
     let mut buffer = [0xee; 2044];
     let mut ring = Ring::new(&mut memory);
     let mut reader = Reader::new();
     let mut packet = frame(front, 0, 0);
     packet.bytes[6] = if front[0] == 0x85 { 0x7f } else { 0 };
-    ring.put_frame(&packet)?;
-    let answer = heard(reader.read(&mut ring, checksum, service, false, &mut buffer));
+    ring.put(&Outgoing::Frame(packet))?;
+    let terms = Terms {
+        checksum,
+        service,
+        fasb: false,
+    };
+    let answer = reader.read(&mut ring, terms.as_ref(), &mut buffer);
     Ok((answer, buffer[0]))
 }
 
@@ -32,27 +40,18 @@ fn verdict<K: Checksum, S: Service>(
 #[test]
 fn damaged_before_foreign(rt: HostRuntime) -> Result<(), Fail> {
     let lawful = [0x85, 0x14, 0x00, 0xaa, 0x47, 0x9f];
-    let damaged = [0x85, 0x14, 0x00, 0xaa, 0x47, 0x9e];
-    let foreign = [0x85, 0x07, 0x00, 0xaa, 0x5d, 0xac];
+    let altered = [0x85, 0x14, 0x00, 0xaa, 0x47, 0x9e];
+    let refused = [0x85, 0x07, 0x00, 0xaa, 0x5d, 0xac];
     let both = [0x85, 0x07, 0x00, 0xaa, 0x5d, 0x2c];
-    assert_eq!(rt; verdict(&Crc16, &Sync, lawful)?, (Said::Sound(3), 0x14));
-    assert_eq!(rt; verdict(&Crc16, &Sync, damaged)?, (Said::Damaged(3), 0x14));
-    assert_eq!(rt;
-        verdict(&Crc16, &Sync, foreign)?,
-        (Said::Foreign(32, 3), 0x07)
-    );
-    assert_eq!(rt; verdict(&Crc16, &Sync, both)?, (Said::Damaged(3), 0x07));
-    assert_eq!(rt; verdict(&Crc16, &Plain, foreign)?, (Said::Sound(3), 0x07));
-    assert_eq!(rt; verdict(&Crc16, &Plain, both)?, (Said::Damaged(3), 0x07));
-    assert_eq!(rt;
-        verdict(&NoChecksum, &Sync, lawful)?,
-        (Said::Sound(5), 0x14)
-    );
-    assert_eq!(rt;
-        verdict(&NoChecksum, &Sync, foreign)?,
-        (Said::Foreign(32, 5), 0x07)
-    );
-    assert_eq!(rt; verdict(&NoChecksum, &Plain, both)?, (Said::Sound(5), 0x07));
+    assert_eq!(rt; verdict(Crc16, Sync, lawful)?, (sound(3), 0x14));
+    assert_eq!(rt; verdict(Crc16, Sync, altered)?, (damaged(3), 0x14));
+    assert_eq!(rt; verdict(Crc16, Sync, refused)?, (foreign(32, 3), 0x07));
+    assert_eq!(rt; verdict(Crc16, Sync, both)?, (damaged(3), 0x07));
+    assert_eq!(rt; verdict(Crc16, Plain, refused)?, (sound(3), 0x07));
+    assert_eq!(rt; verdict(Crc16, Plain, both)?, (damaged(3), 0x07));
+    assert_eq!(rt; verdict(NoChecksum, Sync, lawful)?, (sound(5), 0x14));
+    assert_eq!(rt; verdict(NoChecksum, Sync, refused)?, (foreign(32, 5), 0x07));
+    assert_eq!(rt; verdict(NoChecksum, Plain, both)?, (sound(5), 0x07));
     Ok(())
 }
 
@@ -62,13 +61,10 @@ fn short(rt: HostRuntime) -> Result<(), Fail> {
     let one = [0x81, 0x41, 0x7f, 0, 0, 0];
     let two = [0x82, 0x41, 0xb9, 0x7f, 0, 0];
     let three = [0x83, 0x41, 0xb9, 0x15, 0x7f, 0];
-    assert_eq!(rt; verdict(&Crc16, &Plain, one)?, (Said::Short, 0xee));
-    assert_eq!(rt; verdict(&Crc16, &Plain, two)?, (Said::Short, 0xee));
-    assert_eq!(rt; verdict(&Crc16, &Plain, three)?, (Said::Sound(1), 0x41));
-    assert_eq!(rt; verdict(&NoChecksum, &Plain, one)?, (Said::Sound(1), 0x41));
-    assert_eq!(rt;
-        verdict(&Crc16, &Sync, three)?,
-        (Said::Foreign(31, 1), 0x41)
-    );
+    assert_eq!(rt; verdict(Crc16, Plain, one)?, (Ok(Reading::Short), 0xee));
+    assert_eq!(rt; verdict(Crc16, Plain, two)?, (Ok(Reading::Short), 0xee));
+    assert_eq!(rt; verdict(Crc16, Plain, three)?, (sound(1), 0x41));
+    assert_eq!(rt; verdict(NoChecksum, Plain, one)?, (sound(1), 0x41));
+    assert_eq!(rt; verdict(Crc16, Sync, three)?, (foreign(31, 1), 0x41));
     Ok(())
 }

@@ -1,31 +1,13 @@
 -- Each fold over a list put together is the fold over its parts.
-use Rattle.std.proofs.Common.{◌≡◌, ℕ, Bool, true, false, cond, List, [], ◌∷◌, ◌++◌, Option, sym, refl, ap, ◌∙◌}
-use Rattle.std.specs.List.{flat_map}
-use Rattle.std.proofs.lemmas.List.{append_assoc}
+use Rattle.std.proofs.Common.{◌≡◌, true, false, cond, List, [], ◌∷◌, ◌++◌, refl, ap, ◌∙◌}
 use Rattle.framing.specs.declared.slot.Slot.{Slot}
-use Rattle.framing.specs.declared.slot.Slot.TheVariants.{Mark}
-use Rattle.framing.specs.Fragments.{fragments}
-use Rattle.channel.specs.Sending.{Sent, sent_frame, sent_mark, became}
-use Rattle.runlaw.specs.Packets.{Piece, pieces_of, known_start, pieces, grouped, still_begun, is_clear, clear_only}
-use Rattle.runlaw.specs.Writing.{stands_after_all, stands_after, Written}
-
-pub joined_append : {A B : Type 0} (f : A → List B) (s t : List A) → flat_map f (s ++ t) ≡ flat_map f s ++ flat_map f t
-joined_append f [] t = refl
-joined_append f (x ∷ s) t = ap (λ r. f x ++ r) (joined_append f s t) ∙ sym (append_assoc (f x) (flat_map f s) (flat_map f t))
-
--- 1. Pieces and groups.
+use Rattle.channel.specs.Sending.{Sent, became}
+use Rattle.runlaw.specs.Packets.{Piece, grouped, still_begun, is_clear, clear_only}
 
 -- the slots before what follows `s`, the nearest first
 abbrev pub slots_before : List Slot → List Sent → List Slot
 slots_before before [] = before
 slots_before before (it ∷ s) = slots_before (became it ∷ before) s
-
-pub pieces_append : (fasb : Bool) (before : List Slot) (s t : List Sent) → pieces fasb before (s ++ t) ≡ pieces fasb before s ++ pieces fasb (slots_before before s) t
-pieces_append fasb before [] t = refl
-pieces_append fasb before (sent_mark ∷ s) t = pieces_append fasb (Mark ∷ before) s t
-pieces_append fasb before (sent_frame f x ∷ s) t =
-    let here = pieces_of (known_start fasb before) f x in
-    ap (λ r. here ++ r) (pieces_append fasb (x ∷ before) s t) ∙ sym (append_assoc here (pieces fasb (x ∷ before) s) (pieces fasb (slots_before (x ∷ before) s) t))
 
 pub begun_append : (b xs ys : List Piece) → still_begun b (xs ++ ys) ≡ still_begun (still_begun b xs) ys
 begun_append b [] ys = refl
@@ -59,16 +41,3 @@ clear_from b xs = clear_only (grouped b xs)
 
 pub clear_append : (b xs ys : List Piece) → clear_from b (xs ++ ys) ≡ clear_from b xs ++ clear_from (still_begun b xs) ys
 clear_append b xs ys = ap clear_only (groups_append b xs ys) ∙ kept_append (grouped b xs) (grouped (still_begun b xs) ys)
-
--- 2. What a writer owes, and a fair run, from one call to the next.
-
-pub stands_append : (at : Option ℕ) (s t : List Sent) → stands_after at (s ++ t) ≡ stands_after (stands_after at s) t
-stands_append at [] t = refl
-stands_append at (sent_frame f x ∷ s) t = stands_append (stands_after_all at (fragments f)) s t
-stands_append at (sent_mark ∷ s) t = stands_append at s t
-
-pub written_append : (fasb : Bool) (width : ℕ) (at : Option ℕ) (s t : List Sent)
-    → Written fasb width at s → Written fasb width (stands_after at s) t → Written fasb width at (s ++ t)
-written_append fasb width at [] t w v = v
-written_append fasb width at (sent_frame f x ∷ s) t w v = (w.0, w.1, written_append fasb width (stands_after_all at (fragments f)) s t w.2 v)
-written_append fasb width at (sent_mark ∷ s) t w v = (w.0, written_append fasb width at s t w.1 v)

@@ -15,7 +15,8 @@ use Rattle.runlaw.specs.Packets.{Piece, pieces_of, gap_before, known_start, piec
 use Rattle.runlaw.specs.Fair.{Fair, BodiesOnly}
 use Rattle.runlaw.specs.Writing.{stands_after_all, stands_after, MarkAllowed, Written}
 use Rattle.runlaw.specs.Theorem.{packet_in, loss_in, torn_in, Tells, ReadsTheClear}
-use Rattle.runlaw.proofs.Folds.{joined_append, slots_before, begun_append}
+use Rattle.std.proofs.lemmas.Grind.{flat_map-append}
+use Rattle.runlaw.proofs.Folds.{slots_before, begun_append}
 use Rattle.runlaw.proofs.Fates.{as_in, fair_fragments, fair_judged}
 use Rattle.runlaw.proofs.Rows.{lawful_when_seeking, lawful_row}
 use Rattle.runlaw.proofs.Alignment.{Tuned, between, astray, holding, skipping, due, due_append, Came, Lost, frame_came, frame_lost}
@@ -24,11 +25,11 @@ use Rattle.runlaw.proofs.Alignment.{Tuned, between, astray, holding, skipping, d
 
 tells_append : (s t : List Told) (p q : List (List ℕ)) (m n : ℕ) → Tells s p m → Tells t q n → Tells (s ++ t) (p ++ q) (m + n)
 tells_append s t p q m n a b = record {
-  packets_are = joined_append packet_in s t ∙ ap₂ (λ (x y : List (List ℕ)). x ++ y) a.packets_are b.packets_are;
+  packets_are = flat_map-append packet_in s t ∙ ap₂ (λ (x y : List (List ℕ)). x ++ y) a.packets_are b.packets_are;
   losses_are =
       let both = length-append (flat_map loss_in s) (flat_map loss_in t) in
-      ap length (joined_append loss_in s t) ∙ omega (arith, a.losses_are, b.losses_are);
-  none_torn = joined_append torn_in s t ∙ ap₂ (λ (x y : List (Unit {0})). x ++ y) a.none_torn b.none_torn;
+      ap length (flat_map-append loss_in s t) ∙ omega (arith, a.losses_are, b.losses_are);
+  none_torn = flat_map-append torn_in s t ∙ ap₂ (λ (x y : List (Unit {0})). x ++ y) a.none_torn b.none_torn;
 }
 
 packets_told : (ps : List (List ℕ)) → Tells (map packet ps) ps 0

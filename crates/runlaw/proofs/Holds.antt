@@ -13,7 +13,7 @@ use Rattle.runlaw.specs.Packets.{Piece, groups, pieces, as_cut, as_received, is_
 use Rattle.runlaw.specs.Fair.{Fair}
 use Rattle.runlaw.specs.Law.{HandedOutRightly, InTurn, NoFault, HandsOutClearPackets}
 use Rattle.runlaw.specs.Theorem.{packet_in, loss_in, torn_in, Tells, answered, Admitted, Shown, RunLawHolds}
-use Rattle.runlaw.proofs.Folds.{joined_append}
+use Rattle.std.proofs.lemmas.Grind.{flat_map-append}
 use Rattle.runlaw.proofs.Followed.{reads_the_clear}
 use Rattle.runlaw.proofs.Judged.{Own, pieces_own, groups_own, clear_length, Good, Out, handed_rightly}
 
@@ -106,7 +106,7 @@ module _ (width reach : ℕ) (value : List ℕ → List ℕ) (refusal : List ℕ
 
 -- of answers in two parts, how many of the first are losses
 lost_part : (xs ys zs : List Answer) → xs ++ ys ≡ zs → length (flat_map lost_by xs) + length (flat_map lost_by ys) ≡ length (flat_map lost_by zs)
-lost_part xs ys zs e = sym (length-append (flat_map lost_by xs) (flat_map lost_by ys)) ∙ ap length (sym (joined_append lost_by xs ys) ∙ ap (flat_map lost_by) e)
+lost_part xs ys zs e = sym (length-append (flat_map lost_by xs) (flat_map lost_by ys)) ∙ ap length (sym (flat_map-append lost_by xs ys) ∙ ap (flat_map lost_by) e)
 
 module _ (fasb : Bool) (width reach : ℕ) (value : List ℕ → List ℕ) (refusal : List ℕ → Option ℕ) (h : History) where
   hands_out : Shown fasb width reach value refusal h → Fair (all_sent h) → HandsOutClearPackets fasb width reach h
@@ -123,7 +123,7 @@ module _ (fasb : Bool) (width reach : ℕ) (value : List ℕ → List ℕ) (refu
       let so_far = answers_given h in
       let to_come = answered width value refusal shown.untold in
       let both : flat_map out_by (answered width value refusal told) ≡ flat_map out_by so_far ++ flat_map out_by to_come =
-      ap (flat_map out_by) (sym shown.told) ∙ joined_append out_by so_far to_come in
+      ap (flat_map out_by) (sym shown.told) ∙ flat_map-append out_by so_far to_come in
       let m = in_turn_split (HandedOutRightly width reach) (flat_map out_by so_far) (flat_map out_by to_come) (clear fasb [] s)
       (subst (λ x. InTurn (HandedOutRightly width reach) x (clear fasb [] s)) both all.turns) in
       let losses : length (flat_map lost_by so_far) + length (flat_map lost_by to_come) ≡ gaps (map became s) =

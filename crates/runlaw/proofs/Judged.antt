@@ -1,9 +1,9 @@
 -- One clear packet of a fair run: it comes at its own length, is handed out so, and is judged rightly.
-use Rattle.std.proofs.Common.{◌≡◌, ℕ, ◌+◌, ◌-◌, ◌≤◌, Bool, true, false, cond, ◌&&◌, eqb, leb, List, [], ◌∷◌, ◌++◌, length, take, drop, Some, None, Option, sym, refl, ap, ◌∙◌, ap₂, subst₂, arith}
+use Rattle.std.proofs.Common.{◌≡◌, ℕ, ◌+◌, ◌-◌, ◌≤◌, Bool, true, false, cond, leb, List, [], ◌∷◌, ◌++◌, length, take, drop, Some, None, Option, sym, refl, ap, ◌∙◌, ap₂, subst₂, arith}
 use Rattle.std.specs.List.{flat_map, AllByRecursion}
 use Rattle.std.proofs.ByRecursion.{All-append}
 use Rattle.std.proofs.lemmas.List.{length-append, length-take, take_at, drop_at, take-append-drop}
-use Rattle.std.proofs.lemmas.Bool.{and_parts, cond-false, lt-leb, eq-eqb, eqb-true, both_ways}
+use Rattle.std.proofs.lemmas.Bool.{and_parts, cond-false, lt-leb, both_ways}
 use Rattle.framing.specs.declared.frame.Frame.{Frame}
 use Rattle.framing.specs.declared.slot.Slot.{Slot}
 use Rattle.framing.specs.declared.slot.Slot.TheVariants as slot
@@ -11,6 +11,7 @@ use Rattle.framing.specs.Fragments.{Fragment, body, notional, padding, fragments
 use Rattle.channel.specs.Sending.{Sent, sent_frame, sent_mark}
 use Rattle.checksum.specs.Stretch.{bits, ChangedInOneStretch}
 use Rattle.checksum.specs.Detection.{Detects}
+use Rattle.receiver.proofs.Handed.{same_refl, same_true}
 use Rattle.receiver.specs.Answering.{sound, damaged, foreign, handed_out, same, quality, answered}
 use Rattle.runlaw.specs.History.{HandedOut}
 use Rattle.runlaw.specs.Packets.{Piece, piece_of, pieces_of, known_start, pieces, grouped, as_cut, as_received, or_none, is_here, all_came, start_known, is_clear}
@@ -87,22 +88,10 @@ clear_length g h e = group_length g h (and_parts (all_came g) (start_known g) e)
 
 -- 2. Quality.
 
-same_self : (x : List ℕ) → same x x ≡ true
-same_self [] = refl
-same_self (b ∷ x) = ap₂ (λ s t. s && t) (eq-eqb b b refl) (same_self x)
-
-same_true : (x y : List ℕ) → same x y ≡ true → x ≡ y
-same_true [] [] e = refl
-same_true [] (b ∷ y) e = absurd (both_ways false refl e)
-same_true (a ∷ x) [] e = absurd (both_ways false refl e)
-same_true (a ∷ x) (b ∷ y) e =
-    let both = and_parts (eqb a b) (same x y) e in
-    ap₂ (λ (s : ℕ) (t : List ℕ). s ∷ t) (eqb-true a b both.0) (same_true x y both.1)
-
 module _ (value : List ℕ → List ℕ) (refusal : List ℕ → Option ℕ) where
   fitting : (p : List ℕ) → refusal p ≡ None → quality value refusal p (value p) ≡ sound
   fitting p admitted =
-      ap (λ b. cond b (elim (refusal p) [ None ↦ sound | Some n ↦ foreign n ]) damaged) (same_self (value p))
+      ap (λ b. cond b (elim (refusal p) [ None ↦ sound | Some n ↦ foreign n ]) damaged) (same_refl (value p))
       ∙ ap (λ o. elim o [ None ↦ sound | Some n ↦ foreign n ]) admitted
 
   sound_fits : (t v : List ℕ) → quality value refusal t v ≡ sound → value t ≡ v

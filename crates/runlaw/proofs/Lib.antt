@@ -5,7 +5,5 @@ pub mod Alignment
 pub mod Followed
 pub mod Judged
 pub mod Holds
-pub mod Laid
-pub mod Carrying
 pub mod Events
 pub mod Verdicts

@@ -3,17 +3,13 @@ use Rattle.std.proofs.Common.{◌≡◌, ℕ, zero, suc, ◌+◌, ◌≤◌, Boo
 use Rattle.std.proofs.lemmas.List.{length-take}
 use Rattle.std.proofs.lemmas.Bool.{cases_eq, cond-true, eq-eqb, ne_eqb, eqb-true, leb-true, and_parts, or_cases, or_right, both_ways}
 use Rattle.framing.specs.Header.{count_of, last_of, Header, headers_from}
-use Rattle.framing.specs.Judging.{Question, first_no, none_open, questions, padding_questions, notional_questions, body_questions, judgment_of, judgment, after_first, Verdict, lawful, torn, is_lawful}
+use Rattle.framing.specs.Judging.{Question, first_no, none_open, questions, padding_questions, notional_questions, body_questions, judgment_of, judgment, after_first, lawful, is_lawful}
 use Rattle.framing.specs.Fragments.{Fragment, body, notional, padding, fragment_of, fragments}
 use Rattle.framing.proofs.Coming.{padding_is, notional_is, body_is}
 use Rattle.framing.proofs.Rendered.{AllYes, all_yes, lawful_first}
 use Rattle.runlaw.specs.Writing.{begun_with, stands_after_one}
 
 -- 1. Questions answered yes.
-
-pub lawful_from : (v : Verdict) → is_lawful v ≡ true → v ≡ lawful
-lawful_from lawful e = refl
-lawful_from (torn q p) e = absurd (both_ways false refl e)
 
 pub none_refused : (qs : List Question) → AllYes qs → first_no qs ≡ None
 none_refused [] y = refl

@@ -3,7 +3,7 @@ ghost use Rattle.runlaw.specs.Trials.{Allows, CanBeShown, TurnsDown, goes_well, 
 
 /// The law tried on runs of wrong programs, which it turns down, and on a right one, which it allows: of that run a flow
 /// can show all that the law is proved from.
-pub fn wrong_runs_are_turned_down() -> u8
+pub fn wrong_runs_are_turned_down()
     ensures shows_a_right_run { CanBeShown false 0 goes_well }
     ensures allows_a_right_run { Allows false 0 goes_well }
     ensures packets_round_the_channel { TurnsDown false 0 passes_round }
@@ -15,6 +15,4 @@ pub fn wrong_runs_are_turned_down() -> u8
     ensures all_damaged { TurnsDown false 0 calls_all_damaged }
     ensures after_a_gap { TurnsDown false 0 trusts_after_gap }
     ensures over_a_mark { TurnsDown true 0 trusts_a_mark }
-{
-    0
-}
+{}

@@ -10,7 +10,7 @@ pub returns : goal.returns
 returns g c =
     let old = c.args.self.now in
     let holds = c.if-not-holds.ensures in
-    let opened : old.writer.opened ≡ true = (and_parts _ _ (sym holds)).0 in
+    let opened : (state_of old.writer).opened ≡ true = (and_parts _ _ (sym holds)).0 in
     let finished = c.finish.ensures in
     let goes : Tied g.C.Channel.space g.C.Channel.tied old
     → Went g.C.Channel.made (closing (state_of old.writer)).puts (g.C.Channel.slots old.channel) (g.C.Channel.space old.channel)
@@ -20,7 +20,7 @@ returns g c =
     record {
       asked = ap (λ b. cond {A = Option ℕ} b None (Some 4)) holds;
       same = tt;
-      steady = record { checksum = refl; service = refl; id = refl; fasb = refl };
+      steady = record { terms = refl; id = refl };
       reader_stays = refl;
       leaves = finished.state;
       sends = λ ties. (goes ties).0;

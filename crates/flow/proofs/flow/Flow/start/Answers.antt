@@ -22,7 +22,7 @@ returns g c =
       asked = asked;
       same = tt;
       token = refl;
-      steady = record { checksum = refl; service = refl; id = refl; fasb = refl };
+      steady = record { terms = refl; id = refl };
       reader_stays = refl;
       leaves = begun.state;
       sends = λ ties. (goes ties.0).went;

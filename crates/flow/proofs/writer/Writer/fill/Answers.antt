@@ -1,37 +1,18 @@
-use Rattle.std.proofs.Common.{ℕ, List, [], ◌∷◌, drop, sym, ap, ◌∙◌, ap₂, arith, rules}
-use Rattle.flow.specs.Cutting.{cut, behind}
-use Rattle.flow.specs.Writing.{State}
-use Rattle.flow.proofs.Filled.{zeros_stay, fill_fits, fill_fills}
+use Rattle.std.proofs.Common.{◌<◌, ◌≤◌, length, arith}
+use Rattle.std.proofs.lemmas.Bool.Decides.{nat_tests}
+use Rattle.flow.proofs.Cuts.{cut_fits, cut_fills}
 use Rattle.flow.proofs.writer.Writer.fill.Goals as goal
 
-pub invariant_of-self-clause-zeros : goal.invariant_of-self-clause-zeros
-invariant_of-self-clause-zeros c =
-    zeros_stay c.args.self.now.frame.bytes c.with_fragment-frame.result.bytes c.args.bytes.now
-    c.args.self.now.used c.min-n.result (omega arith) c.args.self.now.zeros c.min-n.ensures
-    c.with_fragment-frame.ensures
+pub returns-then-not-is_full-clause-cuts : goal.returns-then-not-is_full-clause-cuts
+returns-then-not-is_full-clause-cuts c =
+    let grows = c.write_next-rest.ensures.grows in
+    let fits : length c.write_next-rest.new.self.bytes.items < 121 = grind (arith, nat_tests) in
+    let e = cut_fits _ c.args.self.now.unfinished.bytes.items c.args.bytes.now c.requires.0 c.requires.1 (rw grows at fits) in
+    cc
 
-pub returns-then-used-le120 : goal.returns-then-used-le120
-returns-then-used-le120 c =
-    record {
-      moves = omega arith;
-      cuts =
-          fill_fits c.args.self.now.frame.bytes c.with_fragment-frame.result.bytes c.args.bytes.now
-          c.args.self.now.used c.min-n.result (omega arith) c.args.self.now.zeros c.min-n.ensures
-          c.with_fragment-frame.ensures c.args.self.now.left (omega arith) (omega arith) (omega arith);
-      stays = search rules;
-    }
-
-pub returns : goal.returns
-returns c =
-    record {
-      moves = omega arith;
-      cuts =
-          fill_fills c.args.self.now.frame.bytes c.with_fragment-frame.result.bytes c.args.bytes.now
-          c.args.self.now.used c.min-n.result (omega arith) c.args.self.now.zeros c.min-n.ensures
-          c.with_fragment-frame.ensures c.args.self.now.left (omega arith) (omega arith) (omega arith)
-          ∙ ap₂
-          (λ (f : List ℕ) (s : State). behind (f ∷ []) (cut s.left s.begun (drop c.min-n.result c.args.bytes.now)))
-          (sym c.finished.ensures)
-          (sym c.advance.ensures);
-      stays = ap (λ (s : State). s.opened) c.advance.ensures;
-    }
+pub returns-clause-cuts : goal.returns-clause-cuts
+returns-clause-cuts c =
+    let grows = c.write_next-rest.ensures.grows in
+    let fills : 121 ≤ length c.write_next-rest.new.self.bytes.items = grind (arith, nat_tests) in
+    let e = cut_fills _ c.args.self.now.unfinished.bytes.items c.args.bytes.now c.requires.0 c.requires.1 (rw grows at fills) in
+    cc

@@ -1,9 +1,8 @@
 use Rattle.std.proofs.Common.{◌≡◌, ℕ, ◌+◌, List, length, sym, ap, ◌∙◌, subst, ap₂}
-use Rattle.framing.specs.Fragments.{fragments}
+use Rattle.framing.specs.Fragments.{fragments, fragments_from}
 use Rattle.framing.specs.Judging.{lawful, is_lawful, judgment}
 use Rattle.receiver.specs.Reading.{Standing, next_number, verdict_on}
-use Rattle.receiver.specs.Telling.{Holds, Received}
-use Rattle.receiver.specs.Views.{standing_of, unread_from, Within}
+use Rattle.receiver.specs.Views.{standing_of, Within}
 use Rattle.receiver.proofs.Limits.{lawful_within}
 use Rattle.receiver.proofs.Slots.{at_lawful}
 use Rattle.receiver.proofs.reader.Reader.receive.Goals as goal
@@ -17,15 +16,13 @@ returns-in-Ok c =
     let judged : lawful ≡ verdict_on c.args.width r bytes =
     c.in-Ok.ensures ∙ ap (λ o. (judgment c.args.width o bytes).verdict) c.open_len.ensures in
     let fit : Within (2044 + c.args.width) r (fragments bytes) = lawful_within c.args.width r bytes whole (sym (ap is_lawful judged)) in
-    let held_so : Holds c.args.fasb c.args.width c.args.self.now c.args.slot c.hold.new.self =
     record {
       reads_on = λ rest.
           at_lawful c.args.fasb c.args.width r c.args.self.now.number c.args.slot bytes _ rest c.in-Frame.is judged
-          (ap₂ (λ (s : Standing) (k : ℕ). record { standing = s; number = k; in_hand = unread_from c.hold.new.self.frame.bytes 0 }) c.hold.ensures.same c.hold.ensures.counts
+          (ap₂ (λ (s : Standing) (k : ℕ). record { standing = s; number = k; in_hand = fragments_from c.hold.new.self.frame.bytes 0 }) c.hold.ensures.same c.hold.ensures.counts
           ∙ ap (λ f. record { standing = r; number = next_number c.args.self.now.number; in_hand = fragments f.bytes }) held);
       rests = c.hold.ensures.holds.1;
       fits =
-          subst (λ (s : Standing). Within (2044 + c.args.width) s (unread_from c.hold.new.self.frame.bytes 0)) (sym c.hold.ensures.same)
-          (subst (λ f. Within (2044 + c.args.width) r (unread_from f.bytes 0)) (sym held) fit);
-    } in
-    subst (λ o. Received c.args.fasb c.args.width c.args.self.now c.args.slot o c.hold.new.self) (sym c.hold.ensures.quiet) held_so
+          subst (λ (s : Standing). Within (2044 + c.args.width) s (fragments_from c.hold.new.self.frame.bytes 0)) (sym c.hold.ensures.same)
+          (subst (λ f. Within (2044 + c.args.width) r (fragments_from f.bytes 0)) (sym held) fit);
+    }
