@@ -4,9 +4,12 @@
 
 mod frames;
 mod headers;
-pub mod holding;
+mod numbers;
+mod reading;
 mod reels;
 mod scripts;
 mod sending;
+mod session;
+mod terms;
 pub mod totals;
 mod tracing;

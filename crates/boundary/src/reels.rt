@@ -1,19 +1,16 @@
+use crate::reading::read_on;
+use crate::terms::{OnTerms, on_terms};
 use crate::totals::Totals;
-use crate::tracing::put_answer;
+use crate::tracing::Trace;
 use checksum::checksum::Checksum;
-use checksum::crc16::Crc16;
-use checksum::none::NoChecksum;
-use receiver::answer::Reading;
 use receiver::receiver::Receiver;
+use receiver::terms::Terms;
 use reel::checking::check;
-use reel::fault::BlockFault;
 use reel::playing::ReelChannel;
-use service::plain::Plain;
-use service::service::Service;
-use service::sync::Sync;
+use service::choice::ServiceChoice;
 
 /// What is said of a reel: question 0 where it is lawful, else the question's number and the place of the block.
-#[derive(Clone, Copy)]
+#[derive(Clone, Copy, PartialEq, Eq, Debug)]
 #[repr(C)]
 pub struct Checked {
     pub at: usize,
@@ -27,36 +24,36 @@ pub extern "C" fn rothveam_check_reel(reel: &[u8]) -> Checked {
         Ok(()) => Checked { at: 0, question: 0 },
         Err(fault) => Checked {
             at: fault.at,
-            question: match fault.fault {
-                BlockFault::SuperframeSize => 21,
-                BlockFault::Map => 22,
-                BlockFault::Frames => 23,
-            },
+            question: fault.fault.number(),
         },
     }
 }
 
-/// Reads a reel to its end, and puts every answer down in `trace`. Gives how many bytes of it that took.
-fn trace_all<K: Checksum + Drop, S: Service + Drop>(
-    reel: &[u8],
-    checksum: K,
-    service: S,
-    fasb: bool,
-    buffer: &mut [u8],
-    trace: &mut [u8],
-) -> usize {
-    let mut receiver = Receiver::over(ReelChannel::over(reel), checksum, service, fasb);
-    let mut at = 0;
-    for _ in 0..usize::MAX {
-        let Ok(answer) = receiver.read(buffer) else {
-            return at;
-        };
-        at = put_answer(trace, at, answer, buffer);
-        if let Reading::Nothing = answer {
-            return at;
-        }
+/// To read a reel to its end, packet by packet into `buffer`, and put every answer down in `trace`.
+struct Tracing<'a> {
+    reel: &'a [u8],
+    buffer: &'a mut [u8],
+    trace: &'a mut [u8],
+}
+
+impl OnTerms for Tracing<'_> {
+    /// How many bytes of `trace` that took.
+    type Output = usize;
+
+    fn done<K: Checksum + Drop>(self, terms: Terms<K, ServiceChoice>) -> usize {
+        let Tracing {
+            reel,
+            buffer,
+            trace,
+        } = self;
+        let mut receiver = Receiver::over(ReelChannel::over(reel), terms);
+        let mut trace = Trace::over(trace);
+        // Into a buffer that is too short nothing is read: the trace is empty then, and needs no number of a refusal.
+        let _ = read_on(&mut receiver, buffer, |answer, buffer| {
+            trace.put_answer(answer, buffer);
+        });
+        trace.end()
     }
-    at
 }
 
 /// Reads a reel with CRC-16 or no checksum, as sync packets or plain ones, to its end. Each answer goes into `trace`.
@@ -69,35 +66,31 @@ pub extern "C" fn rothveam_trace_reel(
     buffer: &mut [u8],
     trace: &mut [u8],
 ) -> usize {
-    match (crc16, sync) {
-        (false, false) => trace_all(reel, NoChecksum, Plain, fasb, buffer, trace),
-        (false, true) => trace_all(reel, NoChecksum, Sync, fasb, buffer, trace),
-        (true, false) => trace_all(reel, Crc16, Plain, fasb, buffer, trace),
-        (true, true) => trace_all(reel, Crc16, Sync, fasb, buffer, trace),
-    }
+    let tracing = Tracing {
+        reel,
+        buffer,
+        trace,
+    };
+    on_terms(tracing, crc16, sync, fasb)
 }
 
-fn count_all<K: Checksum + Drop, S: Service + Drop>(
-    reel: &[u8],
-    checksum: K,
-    service: S,
-    buffer: &mut [u8],
-) -> Totals {
-    let mut receiver = Receiver::over(ReelChannel::over(reel), checksum, service, false);
-    let mut totals = Totals::none();
-    for _ in 0..usize::MAX {
-        let Ok(answer) = receiver.read(buffer) else {
-            return totals;
-        };
-        match answer {
-            Reading::Sound { len } | Reading::Damaged { len } | Reading::Foreign { len, .. } => {
-                totals = totals.with_packet(len);
-            }
-            Reading::Nothing => return totals,
-            _ => totals = totals.with_other(),
-        }
+/// To read a reel to its end, packet by packet into `buffer`, and count.
+struct Counting<'a> {
+    reel: &'a [u8],
+    buffer: &'a mut [u8],
+}
+
+impl OnTerms for Counting<'_> {
+    type Output = Totals;
+
+    fn done<K: Checksum + Drop>(self, terms: Terms<K, ServiceChoice>) -> Totals {
+        let Counting { reel, buffer } = self;
+        let mut receiver = Receiver::over(ReelChannel::over(reel), terms);
+        let mut totals = Totals::default();
+        // Into a buffer that is too short nothing is read, and all is 0 then.
+        let _ = read_on(&mut receiver, buffer, |answer, _| totals.count(answer));
+        totals
     }
-    totals
 }
 
 /// Reads a reel to its end, packet by packet into `buffer`, and counts.
@@ -109,10 +102,5 @@ pub extern "C" fn rothveam_count_reel(
     buffer: &mut [u8],
     totals: &mut Totals,
 ) {
-    *totals = match (crc16, sync) {
-        (false, false) => count_all(reel, NoChecksum, Plain, buffer),
-        (false, true) => count_all(reel, NoChecksum, Sync, buffer),
-        (true, false) => count_all(reel, Crc16, Plain, buffer),
-        (true, true) => count_all(reel, Crc16, Sync, buffer),
-    };
+    *totals = on_terms(Counting { reel, buffer }, crc16, sync, false);
 }

@@ -1,21 +1,20 @@
-ghost use Rattle.std.specs.Prelude.{◌≡◌};
-ghost use Rattle.boundary.specs.Holding.{Held};
+ghost use Rattle.std.specs.Prelude.{length};
+ghost use Rattle.std.specs.Iterator.{at_most};
 
-use crate::holding::{Hand, Reply, close, close_stray, offer, offer_stray, open};
-use crate::tracing::{put, put_answer};
+use crate::reading::{Source, read_on};
+use crate::session::{Refusal, Session};
+use crate::terms::{OnTerms, on_terms};
+use crate::tracing::Trace;
 use channel::channel::Channel;
 use channel::fade::Fade;
 use channel::pattern::FadePattern;
 use channel::ring::Ring;
 use checksum::checksum::Checksum;
-use checksum::crc16::Crc16;
 use checksum::none::NoChecksum;
-use flow::flow::Flow;
-use flow::token::SuperframeToken;
-use receiver::answer::Reading;
+use receiver::terms::Terms;
+use service::choice::ServiceChoice;
 use service::plain::Plain;
 use service::service::Service;
-use service::sync::Sync;
 
 /// One step of a script, as its three bytes say: which call it is, and a number. A packet stands behind them.
 #[derive(Clone, Copy)]
@@ -34,190 +33,156 @@ enum Step<'a> {
     Asking,
 }
 
-/// The step at the front of a script, and the steps behind it.
-fn first_step(script: &[u8]) -> (Step<'_>, &[u8]) {
-    if script.len() < 3 {
-        return (Step::Asking, &[]);
-    }
-    let n = usize::from(u16::from_le_bytes([script[1], script[2]]));
-    let rest = &script[3..];
-    let (packet, behind) = rest.split_at(n.min(rest.len()));
-    match script[0] {
-        0 => (Step::Opening(n), rest),
-        1 => (Step::Offer(packet), behind),
-        2 => (Step::Closing, rest),
-        3 => (Step::Reading(n), rest),
-        4 => (Step::ReadingOn, rest),
-        5 => (Step::StrayOffer(packet), behind),
-        6 => (Step::StrayClosing, rest),
-        _ => (Step::Asking, rest),
-    }
-}
+/// The steps of a script. One that is cut off asks.
+#[derive(Clone, Copy)]
+struct Steps<'a>(&'a [u8]);
 
-fn put_reply(trace: &mut [u8], at: usize, reply: Reply) -> usize {
-    put(trace, at, &[reply.question, reply.inside])
-}
+impl<'a> Iterator for Steps<'a> {
+    type Item = Step<'a>;
 
-/// One reading, put down. Gives whether it answered anything.
-fn read_once<C: Channel, K: Checksum, S: Service>(
-    flow: &mut Flow<C, K, S>,
-    buffer: &mut [u8],
-    trace: &mut [u8],
-    at: usize,
-) -> (usize, bool)
-    ensures { (h : Hand) → Held h flow.old → Held h flow.new }
-{
-    match flow.reading(buffer) {
-        Err(_) => (put(trace, at, &[8]), false),
-        Ok(answer) => (
-            put_answer(trace, at, answer, buffer),
-            !matches!(answer, Reading::Nothing),
-        ),
+    ghost remaining = { λ s. at_most (length s.0.now) };
+
+    fn next(&mut self) -> Option<Step<'a>> {
+        let (code, low, high, rest) = match self.0 {
+            [] => return None,
+            [code, low, high, rest @ ..] => (*code, *low, *high, rest),
+            _ => {
+                self.0 = &[];
+                return Some(Step::Asking);
+            }
+        };
+        let n = usize::from(u16::from_le_bytes([low, high]));
+        let (packet, behind) = rest.split_at(n.min(rest.len()));
+        let (step, rest) = match code {
+            0 => (Step::Opening(n), rest),
+            1 => (Step::Offer(packet), behind),
+            2 => (Step::Closing, rest),
+            3 => (Step::Reading(n), rest),
+            4 => (Step::ReadingOn, rest),
+            5 => (Step::StrayOffer(packet), behind),
+            6 => (Step::StrayClosing, rest),
+            _ => (Step::Asking, rest),
+        };
+        self.0 = rest;
+        Some(step)
     }
 }
 
-/// Readings through the first that answers nothing, put down.
-fn read_on<C: Channel, K: Checksum, S: Service>(
-    flow: &mut Flow<C, K, S>,
-    buffer: &mut [u8],
-    trace: &mut [u8],
-    at: usize,
-) -> usize
-    ensures { (h : Hand) → Held h flow.old → Held h flow.new }
-{
-    let mut at = at;
-    for _ in 0..usize::MAX {
-        let (next, more) = read_once(flow, buffer, trace, at);
-        at = next;
-        if !more {
-            return at;
+/// A script under way: the session that it runs on, and another of whose token it makes use there; the buffer that packets are
+/// read into; and what is put down of it.
+struct Play<'o, 'b, 't, C, K, S> {
+    session: Session<C, K, S>,
+    other: Session<Ring<'o>, NoChecksum, Plain>,
+    buffer: &'b mut [u8],
+    trace: Trace<'t>,
+}
+
+impl<C: Channel, K: Checksum, S: Service> Play<'_, '_, '_, C, K, S> {
+    fn put_reply(&mut self, reply: Result<(), Refusal>) {
+        let numbers = reply.map_or_else(|refusal| refusal.numbers(), |()| [0, 0]);
+        self.trace.put(&numbers);
+    }
+
+    /// One reading with at most so many bytes of the buffer, put down.
+    fn read_once(&mut self, len: usize) {
+        let end = len.min(self.buffer.len());
+        let buffer = &mut self.buffer[..end];
+        match self.session.reading(buffer) {
+            Ok(answer) => self.trace.put_answer(answer, buffer),
+            Err(short) => self.trace.put(&[short.number()]),
         }
     }
-    at
-}
 
-/// Puts down the room, and whether a slot waits.
-fn ask<C: Channel, K: Checksum, S: Service>(
-    flow: &Flow<C, K, S>,
-    trace: &mut [u8],
-    at: usize,
-) -> usize {
-    let at = put(trace, at, &flow.room().to_le_bytes());
-    put(trace, at, &[flow.waits() as u8])
-}
+    /// Readings through the first that answers nothing, put down.
+    fn read_to_end(&mut self) {
+        let trace = &mut self.trace;
+        let read = read_on(&mut self.session, self.buffer, |answer, buffer| {
+            trace.put_answer(answer, buffer);
+        });
+        if let Err(short) = read {
+            self.trace.put(&[short.number()]);
+        }
+    }
 
-/// What a run has in hand: its own token, where a superframe is open, and another flow's.
-struct Hands {
-    own: Hand,
-    stray: SuperframeToken,
-}
+    /// Puts down the room, and whether a slot waits.
+    fn ask(&mut self) {
+        self.trace.put(&self.session.room().to_le_bytes());
+        self.trace.put(&[u8::from(self.session.waits())]);
+    }
 
-/// Does one step, and puts down what came of it.
-fn do_step<C: Channel, K: Checksum, S: Service>(
-    flow: &mut Flow<C, K, S>,
-    hands: Hands,
-    step: Step<'_>,
-    buffer: &mut [u8],
-    trace: &mut [u8],
-    at: usize,
-) -> (usize, Hands)
-    requires { Held hands.own flow.old }
-    ensures held { Held result.1.own flow.new }
-    ensures stray { result.1.stray ≡ hands.stray }
-{
-    let Hands { own, stray } = hands;
-    match step {
-        Step::Opening(n) => {
-            let (reply, own) = open(flow, own, n);
-            (put_reply(trace, at, reply), Hands { own, stray })
+    /// Does one step, and puts down what came of it.
+    fn do_step(&mut self, step: Step<'_>) {
+        let reply = match step {
+            Step::Opening(frames) => self.session.open(frames),
+            Step::Offer(packet) => self.session.offer(packet),
+            Step::Closing => self.session.close(),
+            Step::Reading(len) => return self.read_once(len),
+            Step::ReadingOn => return self.read_to_end(),
+            Step::StrayOffer(packet) => self.other.offer_astray(&mut self.session, packet),
+            Step::StrayClosing => self.other.close_astray(&mut self.session),
+            Step::Asking => return self.ask(),
+        };
+        self.put_reply(reply);
+    }
+
+    /// Does all steps of a script, and closes what is open at the end.
+    fn run(&mut self, script: &[u8]) {
+        for step in Steps(script) {
+            self.do_step(step);
         }
-        Step::Offer(packet) => {
-            let (reply, own) = offer(flow, own, packet);
-            (put_reply(trace, at, reply), Hands { own, stray })
-        }
-        Step::Closing => {
-            let reply = close(flow, own);
-            let own = Hand::Empty;
-            (put_reply(trace, at, reply), Hands { own, stray })
-        }
-        Step::Reading(n) => {
-            let end = n.min(buffer.len());
-            let (at, _) = read_once(flow, &mut buffer[0..end], trace, at);
-            (at, Hands { own, stray })
-        }
-        Step::ReadingOn => {
-            let at = read_on(flow, buffer, trace, at);
-            (at, Hands { own, stray })
-        }
-        Step::StrayOffer(packet) => {
-            let (reply, own, stray) = offer_stray(flow, own, stray, packet);
-            (put_reply(trace, at, reply), Hands { own, stray })
-        }
-        Step::StrayClosing => {
-            let (reply, own, stray) = close_stray(flow, own, stray);
-            (put_reply(trace, at, reply), Hands { own, stray })
-        }
-        Step::Asking => (ask(flow, trace, at), Hands { own, stray }),
+        let reply = self.session.close();
+        self.put_reply(reply);
+        self.read_to_end();
+        self.ask();
     }
 }
 
-/// Does all steps of a script, and closes what is open at the end.
-fn run<C: Channel, K: Checksum, S: Service>(
-    flow: &mut Flow<C, K, S>,
-    stray: SuperframeToken,
-    script: &[u8],
-    buffer: &mut [u8],
-    trace: &mut [u8],
-) -> (usize, SuperframeToken)
-    ensures { result.1 ≡ stray }
-{
-    let mut hands = Hands {
-        own: Hand::Empty,
-        stray,
-    };
-    let mut rest = script;
-    let mut at = 0;
-    for _ in 0..script.len() {
-        if !rest.is_empty() {
-            let (step, behind) = first_step(rest);
-            rest = behind;
-            (at, hands) = do_step(flow, hands, step, buffer, trace, at);
-        }
-    }
-    let Hands { own, stray } = hands;
-    let reply = close(flow, own);
-    at = put_reply(trace, at, reply);
-    at = read_on(flow, buffer, trace, at);
-    (ask(flow, trace, at), stray)
-}
-
-/// Runs a script on a flow over a fade over a ring.
-fn run_over<K: Checksum + Drop, S: Service + Drop>(
-    checksum: K,
-    service: S,
-    fasb: bool,
+/// To run a script on a flow over a ring in `memory` under a fade, and put down in `trace` what its calls answered.
+struct Running<'a> {
     pattern: FadePattern,
-    memory: &mut [u8],
-    script: &[u8],
-    buffer: &mut [u8],
-    trace: &mut [u8],
-) -> usize {
-    let channel = Fade::over(Ring::new(memory), pattern);
-    let mut flow = Flow::new(channel, checksum, service, 7, fasb);
-    let mut spare = [0; 246];
-    let mut other = Flow::new(Ring::new(&mut spare), NoChecksum, Plain, 8, false);
-    let (_, hand) = open(&mut other, Hand::Empty, 1);
-    let len = match hand {
-        Hand::Empty => 0,
-        Hand::Holds(stray) => {
-            let (len, stray) = run(&mut flow, stray, script, buffer, trace);
-            close(&mut other, Hand::Holds(stray));
-            len
-        }
-    };
-    let _ = other.into_channel();
-    let _ = flow.into_channel();
-    len
+    memory: &'a mut [u8],
+    script: &'a [u8],
+    buffer: &'a mut [u8],
+    trace: &'a mut [u8],
+}
+
+impl OnTerms for Running<'_> {
+    /// How many bytes of `trace` that took.
+    type Output = usize;
+
+    fn done<K: Checksum + Drop>(self, terms: Terms<K, ServiceChoice>) -> usize {
+        let Running {
+            pattern,
+            memory,
+            script,
+            buffer,
+            trace,
+        } = self;
+        let mut spare = [0; 246];
+        let plain = Terms {
+            checksum: NoChecksum,
+            service: Plain,
+            fasb: false,
+        };
+        let mut play = Play {
+            session: Session::begin(Fade::over(Ring::new(memory), pattern), terms, 7),
+            other: Session::begin(Ring::new(&mut spare), plain, 8),
+            buffer,
+            trace: Trace::over(trace),
+        };
+        // Its ring has room for two slots, so that one frame and the mark can be opened.
+        let _ = play.other.open(1);
+        play.run(script);
+        let Play {
+            session,
+            other,
+            buffer: _,
+            trace,
+        } = play;
+        other.end();
+        session.end();
+        trace.end()
+    }
 }
 
 /// Runs a script of calls on a flow over a ring in this memory, under a fade with this pattern (a refused one is as if there were
@@ -234,15 +199,14 @@ pub extern "C" fn rothveam_run_script(
     trace: &mut [u8],
 ) -> usize {
     let mut holder = FadePattern::new();
+    // A refused pattern leaves the fade as it is, without one.
     let _ = holder.prepare(pattern);
-    match (crc16, sync) {
-        (false, false) => run_over(
-            NoChecksum, Plain, fasb, holder, memory, script, buffer, trace,
-        ),
-        (false, true) => run_over(
-            NoChecksum, Sync, fasb, holder, memory, script, buffer, trace,
-        ),
-        (true, false) => run_over(Crc16, Plain, fasb, holder, memory, script, buffer, trace),
-        (true, true) => run_over(Crc16, Sync, fasb, holder, memory, script, buffer, trace),
-    }
+    let running = Running {
+        pattern: holder,
+        memory,
+        script,
+        buffer,
+        trace,
+    };
+    on_terms(running, crc16, sync, fasb)
 }

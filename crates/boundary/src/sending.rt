@@ -1,14 +1,11 @@
-ghost use Rattle.boundary.specs.Holding.{Held};
-
-use crate::holding::{Hand, Reply, close, offer, open};
+use crate::session::{Refusal, Session};
+use crate::terms::{OnTerms, on_terms};
 use crate::totals::Totals;
 use channel::channel::Channel;
 use channel::ring::Ring;
 use checksum::checksum::Checksum;
-use checksum::crc16::Crc16;
-use checksum::none::NoChecksum;
-use flow::flow::Flow;
-use service::plain::Plain;
+use receiver::terms::Terms;
+use service::choice::ServiceChoice;
 use service::service::Service;
 
 /// The number of frames of each superframe.
@@ -16,47 +13,48 @@ const FRAMES: usize = 200;
 
 /// Offers a packet; where it does not fit, or nothing is open, in a new superframe.
 fn send<C: Channel, K: Checksum, S: Service>(
-    flow: &mut Flow<C, K, S>,
-    hand: Hand,
+    session: &mut Session<C, K, S>,
     packet: &[u8],
-) -> (Reply, Hand)
-    requires { Held hand flow.old }
-    ensures { Held result.1 flow.new }
-{
-    let (reply, hand) = offer(flow, hand, packet);
-    if reply.question == 0 {
-        return (reply, hand);
+) -> Result<(), Refusal> {
+    if session.offer(packet).is_ok() {
+        return Ok(());
     }
-    close(flow, hand);
-    let (_, hand) = open(flow, Hand::Empty, FRAMES);
-    offer(flow, hand, packet)
+    // Whether nothing was open, or the ring has no room for another superframe, the second offer says as well.
+    let _ = session.close();
+    let _ = session.open(FRAMES);
+    session.offer(packet)
 }
 
-/// Sends packets of `len` bytes each, which stand one behind the other, in as many superframes as the ring takes.
-fn send_all<K: Checksum + Drop>(
-    checksum: K,
-    packets: &[u8],
+/// To send packets of `len` bytes each, which stand one behind the other, in as many superframes as a ring in `memory` takes.
+struct Sending<'a> {
+    packets: &'a [u8],
     len: usize,
-    memory: &mut [u8],
-) -> Totals {
-    let mut totals = Totals::none();
-    if len == 0 {
-        return totals;
+    memory: &'a mut [u8],
+}
+
+impl OnTerms for Sending<'_> {
+    type Output = Totals;
+
+    fn done<K: Checksum + Drop>(self, terms: Terms<K, ServiceChoice>) -> Totals {
+        let Sending {
+            packets,
+            len,
+            memory,
+        } = self;
+        let mut totals = Totals::default();
+        if len == 0 {
+            return totals;
+        }
+        let mut session = Session::begin(Ring::new(memory), terms, 7);
+        for packet in packets.chunks(len) {
+            match send(&mut session, packet) {
+                Ok(()) => totals.count_packet(packet.len()),
+                Err(_) => totals.count_other(),
+            }
+        }
+        session.end();
+        totals
     }
-    let mut flow = Flow::new(Ring::new(memory), checksum, Plain, 7, false);
-    let mut hand = Hand::Empty;
-    for packet in packets.chunks(len) {
-        let (reply, new) = send(&mut flow, hand, packet);
-        hand = new;
-        totals = if reply.question == 0 {
-            totals.with_packet(packet.len())
-        } else {
-            totals.with_other()
-        };
-    }
-    close(&mut flow, hand);
-    let _ = flow.into_channel();
-    totals
 }
 
 /// Writes packets of `len` bytes each into superframes of 200 frames on a ring in this memory, and counts those that were accepted.
@@ -68,9 +66,10 @@ pub extern "C" fn rothveam_send_packets(
     memory: &mut [u8],
     totals: &mut Totals,
 ) {
-    *totals = if crc16 {
-        send_all(Crc16, packets, len, memory)
-    } else {
-        send_all(NoChecksum, packets, len, memory)
+    let sending = Sending {
+        packets,
+        len,
+        memory,
     };
+    *totals = on_terms(sending, crc16, false, false);
 }

@@ -1,5 +1,7 @@
+use receiver::answer::Reading;
+
 /// How much was read or written.
-#[derive(Clone, Copy)]
+#[derive(Clone, Copy, Default, PartialEq, Eq, Debug)]
 #[repr(C)]
 pub struct Totals {
     /// The packets, and their bytes.
@@ -10,29 +12,25 @@ pub struct Totals {
 }
 
 impl Totals {
-    pub(crate) fn none() -> Totals {
-        Totals {
-            packets: 0,
-            bytes: 0,
-            others: 0,
-        }
+    /// Counts one packet more.
+    pub(crate) fn count_packet(&mut self, len: usize) {
+        self.packets = self.packets.wrapping_add(1);
+        self.bytes = self.bytes.wrapping_add(len as u64);
     }
 
-    /// With one packet more.
-    pub(crate) fn with_packet(self, len: usize) -> Totals {
-        Totals {
-            packets: self.packets.wrapping_add(1),
-            bytes: self.bytes.wrapping_add(len as u64),
-            others: self.others,
-        }
+    /// Counts one other answer more.
+    pub(crate) fn count_other(&mut self) {
+        self.others = self.others.wrapping_add(1);
     }
 
-    /// With one other answer more.
-    pub(crate) fn with_other(self) -> Totals {
-        Totals {
-            packets: self.packets,
-            bytes: self.bytes,
-            others: self.others.wrapping_add(1),
+    /// Counts what was read; that there was nothing is no answer.
+    pub(crate) fn count(&mut self, answer: Reading) {
+        match answer {
+            Reading::Sound { len } | Reading::Damaged { len } | Reading::Foreign { len, .. } => {
+                self.count_packet(len);
+            }
+            Reading::Nothing => {}
+            _ => self.count_other(),
         }
     }
 }

@@ -1,22 +1,47 @@
-ghost use Rattle.std.specs.Prelude.{◌≤◌, length};
-
-use framing::fragments::Fragment;
+use crate::numbers::{low_byte, low_half};
 use receiver::answer::Reading;
 
-/// Copies `bytes` behind the first `at` bytes of `trace`, where they fit, and gives where the next ones go.
-pub(crate) fn put(trace: &mut [u8], at: usize, bytes: &[u8]) -> usize
-    ensures { at ≤ result }
-{
-    if at > trace.len() || bytes.len() > trace.len() - at {
-        return at;
+/// What is put down of a run: it stands at the front of a buffer that C hands in, where no vector of the library's can lie.
+pub(crate) struct Trace<'a> {
+    buffer: &'a mut [u8],
+    len: usize,
+}
+
+impl<'a> Trace<'a> {
+    /// A trace with nothing put down yet.
+    pub(crate) fn over(buffer: &'a mut [u8]) -> Trace<'a> {
+        Trace { buffer, len: 0 }
     }
-    let end = at + bytes.len();
-    trace[at..end].copy_from_slice(bytes);
-    end
+
+    /// Puts `bytes` down behind the others, where they fit.
+    pub(crate) fn put(&mut self, bytes: &[u8]) {
+        let end = self.len.saturating_add(bytes.len());
+        if let Some(place) = self.buffer.get_mut(self.len..end) {
+            place.copy_from_slice(bytes);
+            self.len = end;
+        }
+    }
+
+    /// Puts down an answer, and the packet that it handed out.
+    pub(crate) fn put_answer(&mut self, answer: Reading, buffer: &[u8]) {
+        self.put(&Entry::from(answer).bytes());
+        if let Reading::Sound { len }
+        | Reading::Damaged { len }
+        | Reading::Foreign { len, .. } = answer
+        {
+            self.put(&buffer[..len.min(buffer.len())]);
+        }
+    }
+
+    /// How many bytes were put down.
+    pub(crate) fn end(self) -> usize {
+        let Trace { buffer: _, len } = self;
+        len
+    }
 }
 
 /// One answer in numbers. Those that it does not have are 0.
-#[derive(Clone, Copy)]
+#[derive(Clone, Copy, Default)]
 struct Entry {
     /// Which answer it is, counted in the order of `Reading`.
     answer: u8,
@@ -30,92 +55,58 @@ struct Entry {
     len: u16,
 }
 
-const NO_ENTRY: Entry = Entry {
-    answer: 0,
-    number: 0,
-    at: 0,
-    frame: 0,
-    len: 0,
-};
-
-fn low(n: usize) -> u16 {
-    (n & 0xffff) as u16
-}
-
-fn in_numbers(answer: Reading) -> Entry {
-    match answer {
-        Reading::Sound { len } => Entry {
-            answer: 1,
-            len: low(len),
-            ..NO_ENTRY
-        },
-        Reading::Damaged { len } => Entry {
-            answer: 2,
-            len: low(len),
-            ..NO_ENTRY
-        },
-        Reading::Foreign { number, len } => Entry {
-            answer: 3,
-            number,
-            len: low(len),
-            ..NO_ENTRY
-        },
-        Reading::Short => Entry {
-            answer: 4,
-            ..NO_ENTRY
-        },
-        Reading::Lost { frame, dropped } => Entry {
-            answer: 5,
-            frame,
-            len: dropped,
-            ..NO_ENTRY
-        },
-        Reading::Torn {
-            frame,
-            dropped,
-            torn,
-        } => Entry {
-            answer: 6,
-            number: torn.fault.number(),
-            at: (torn.at & 0xff) as u8,
-            frame,
-            len: dropped,
-        },
-        Reading::Mark { dropped } => Entry {
-            answer: 7,
-            len: dropped,
-            ..NO_ENTRY
-        },
-        Reading::Nothing => Entry {
-            answer: 8,
-            ..NO_ENTRY
-        },
+impl Entry {
+    /// With these numbers alone.
+    fn of(answer: u8, len: u16) -> Entry {
+        Entry {
+            answer,
+            len,
+            ..Entry::default()
+        }
     }
-}
 
-/// Puts down an answer, and the packet that it handed out.
-pub(crate) fn put_answer(trace: &mut [u8], at: usize, answer: Reading, buffer: &[u8]) -> usize
-    ensures { at ≤ result }
-{
-    let entry = in_numbers(answer);
-    let [frame_low, frame_high] = entry.frame.to_le_bytes();
-    let [len_low, len_high] = entry.len.to_le_bytes();
-    let at = put(
-        trace,
-        at,
-        &[
-            entry.answer,
-            entry.number,
-            entry.at,
+    /// As it is put down, the low byte of a number first.
+    fn bytes(self) -> [u8; 7] {
+        let [frame_low, frame_high] = self.frame.to_le_bytes();
+        let [len_low, len_high] = self.len.to_le_bytes();
+        [
+            self.answer,
+            self.number,
+            self.at,
             frame_low,
             frame_high,
             len_low,
             len_high,
-        ],
-    );
-    if entry.answer > 3 {
-        return at;
+        ]
     }
-    let len = usize::from(entry.len).min(buffer.len());
-    put(trace, at, &buffer[0..len])
+}
+
+impl From<Reading> for Entry {
+    fn from(answer: Reading) -> Entry {
+        match answer {
+            Reading::Sound { len } => Entry::of(1, low_half(len)),
+            Reading::Damaged { len } => Entry::of(2, low_half(len)),
+            Reading::Foreign { number, len } => Entry {
+                number,
+                ..Entry::of(3, low_half(len))
+            },
+            Reading::Short => Entry::of(4, 0),
+            Reading::Lost { frame, dropped } => Entry {
+                frame,
+                ..Entry::of(5, dropped)
+            },
+            Reading::Torn {
+                frame,
+                dropped,
+                torn,
+            } => Entry {
+                number: torn.fault.number(),
+                at: low_byte(torn.at),
+                frame,
+                ..Entry::of(6, dropped)
+            },
+            Reading::Mark { dropped } => Entry::of(7, dropped),
+            Reading::Nothing => Entry::of(8, 0),
+        }
+    }
 }

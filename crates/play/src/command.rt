@@ -1,13 +1,26 @@
+use checksum::choice::ChecksumChoice;
+use receiver::terms::Terms;
 use script::step::Step;
+use service::choice::ServiceChoice;
 use service::header::SyncHeader;
-use wording::kinds::{ChecksumKind, ServiceKind};
 
 /// One command of a script.
-#[derive(Drop)]
+#[derive(PartialEq, Eq, Debug, Drop)]
 pub enum Command {
+    /// What is answered without a flow.
+    Request(Request),
+    /// A fresh flow.
+    Flow(FlowSetup<usize>),
+    /// A step of the flow that was set up last.
+    Step(Step),
+}
+
+/// A command that needs no flow.
+#[derive(PartialEq, Eq, Debug, Drop)]
+pub enum Request {
     /// The checksum of these bytes.
     Checksum {
-        kind: ChecksumKind,
+        checksum: ChecksumChoice,
         message: Vec<u8>,
     },
     /// The sync header that a packet begins with.
@@ -32,27 +45,21 @@ pub enum Command {
     Fade {
         pattern: Vec<u8>,
     },
-    /// A fresh flow.
-    Flow(FlowSetup),
-    /// A step of the flow that was set up last.
-    Step(Step),
 }
 
-/// What a flow is set up with.
-#[derive(Drop)]
-pub struct FlowSetup {
+/// What a flow is set up with. In a script its ring is a size; on the stage it is memory.
+#[derive(PartialEq, Eq, Debug, Drop)]
+pub struct FlowSetup<R> {
     pub id: u16,
-    pub fasb: bool,
-    pub checksum: ChecksumKind,
-    pub service: ServiceKind,
-    pub source: Source,
+    pub terms: Terms<ChecksumChoice, ServiceChoice>,
+    pub source: Source<R>,
 }
 
 /// The channel below a flow's fade.
-#[derive(Drop)]
-pub enum Source {
-    /// A ring of so many bytes.
-    Ring { memory: usize },
+#[derive(PartialEq, Eq, Debug, Drop)]
+pub enum Source<R> {
+    /// A ring.
+    Ring(R),
     /// The reel of these bytes.
-    Reel { reel: Vec<u8> },
+    Reel(Vec<u8>),
 }

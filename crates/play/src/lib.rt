@@ -1,7 +1,7 @@
 //! The gallery's scripts: one command a line, played on flows, and for each command the lines that answer it.
 #![tactic(auto)]
 
-mod choosing;
+mod arguments;
 pub mod command;
 pub mod parsing;
 pub mod playing;

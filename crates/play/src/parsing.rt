@@ -1,74 +1,75 @@
-use crate::choosing::Telling;
-use crate::command::{Command, FlowSetup, Source};
+ghost use Rattle.std.specs.Prelude.{◌≡◌, IfOk, codes};
+ghost use Rattle.spelling.specs.Words.{words};
+ghost use Rattle.play.specs.Asking.{word_of, word_of_request, word_of_step, ReadAs};
+
+use crate::arguments::Arguments;
+use crate::command::{Command, FlowSetup, Request, Source};
 use framing::judging::PACKET_MAX;
+use receiver::terms::Terms;
 use script::step::Step;
 use service::header::SyncHeader;
-use spelling::decimal::number;
 use spelling::fault::LineFault;
 use spelling::words::Words;
 use std::alloc::Global;
 
 /// What a line asks for: nothing where it is blank or begins with `#`.
-pub fn parse(heap: Global, line: &[u8]) -> Result<Option<Command>, LineFault> {
-    let mut words = Telling {
-        words: Words::of(line),
-    };
-    let Some(name) = words.words.next_word() else {
+pub fn parse(heap: Global, line: &[u8]) -> Result<Option<Command>, LineFault>
+    ensures { ReadAs (words line.now) result }
+{
+    let mut words = Words::of(line);
+    let Some(name) = words.next() else {
         return Ok(None);
     };
-    if is_comment(name) {
+    if name.starts_with(b"#") {
         return Ok(None);
     }
-    let command = parse_command(heap, name, &mut words)?;
-    words.end()?;
+    let mut arguments = Arguments { words };
+    let command = parse_command(heap, name, &mut arguments)?;
+    arguments.end()?;
     Ok(Some(command))
 }
 
-/// Does this word begin a comment?
-fn is_comment(word: &[u8]) -> bool {
-    match word {
-        [first, ..] => *first == b'#',
-        [] => false,
-    }
-}
-
-/// The command of this name, with the words that it wants.
-fn parse_command(heap: Global, name: &[u8], words: &mut Telling) -> Result<Command, LineFault> {
+/// The command of this name, with the arguments that it wants.
+fn parse_command(heap: Global, name: &[u8], arguments: &mut Arguments) -> Result<Command, LineFault>
+    ensures { IfOk result (λ c. name.now ≡ word_of c) }
+{
     match name {
-        b"checksum" => Ok(Command::Checksum {
-            kind: words.checksum_kind()?,
-            message: words.bytes(heap)?,
-        }),
-        b"header" => Ok(Command::Header {
-            packet: words.bytes(heap)?,
-        }),
-        b"write-header" => parse_write_header(heap, words),
-        b"fragments" => Ok(Command::Fragments {
-            frame: words.bytes(heap)?,
-        }),
-        b"reel" => Ok(Command::Reel {
-            reel: words.bytes(heap)?,
-        }),
-        b"fade" => Ok(Command::Fade {
-            pattern: words.bytes(heap)?,
-        }),
-        b"flow" => Ok(Command::Flow(parse_flow(heap, words)?)),
-        _ => Ok(Command::Step(parse_step(heap, name, words)?)),
+        b"checksum" => Ok(Command::Request(Request::Checksum {
+            checksum: arguments.checksum()?,
+            message: arguments.bytes(heap)?,
+        })),
+        b"header" => Ok(Command::Request(Request::Header {
+            packet: arguments.bytes(heap)?,
+        })),
+        b"write-header" => Ok(Command::Request(parse_write_header(heap, arguments)?)),
+        b"fragments" => Ok(Command::Request(Request::Fragments {
+            frame: arguments.bytes(heap)?,
+        })),
+        b"reel" => Ok(Command::Request(Request::Reel {
+            reel: arguments.bytes(heap)?,
+        })),
+        b"fade" => Ok(Command::Request(Request::Fade {
+            pattern: arguments.bytes(heap)?,
+        })),
+        b"flow" => Ok(Command::Flow(parse_flow(heap, arguments)?)),
+        _ => Ok(Command::Step(parse_step(heap, name, arguments)?)),
     }
 }
 
 /// The step of a flow of this name.
-fn parse_step(heap: Global, name: &[u8], words: &mut Telling) -> Result<Step, LineFault> {
+fn parse_step(heap: Global, name: &[u8], arguments: &mut Arguments) -> Result<Step, LineFault>
+    ensures { IfOk result (λ s. name.now ≡ word_of_step s) }
+{
     match name {
         b"open" => Ok(Step::Open {
-            frames: words.number()?,
+            frames: arguments.number()?,
         }),
         b"offer" => Ok(Step::Offer {
-            packet: words.bytes(heap)?,
+            packet: arguments.bytes(heap)?,
         }),
         b"close" => Ok(Step::Close),
         b"read" => Ok(Step::Read {
-            buffer_len: parse_buffer_len(words)?,
+            buffer_len: parse_buffer_len(arguments)?,
         }),
         b"drain" => Ok(Step::Drain),
         b"room" => Ok(Step::Room),
@@ -79,24 +80,25 @@ fn parse_step(heap: Global, name: &[u8], words: &mut Telling) -> Result<Step, Li
 
 /// How long the buffer of a reading is: as told, or as long as any packet. A longer one would be answered alike, so that
 /// no more is taken than this.
-fn parse_buffer_len(words: &mut Telling) -> Result<usize, LineFault> {
-    match words.words.next_word() {
-        None => Ok(PACKET_MAX),
-        Some(word) => match number(word) {
-            Some(len) => Ok(len.min(PACKET_MAX)),
-            None => Err(LineFault::NotANumber),
-        },
-    }
+fn parse_buffer_len(arguments: &mut Arguments) -> Result<usize, LineFault> {
+    Ok(
+        arguments
+            .number_if_any()?
+            .unwrap_or(PACKET_MAX)
+            .min(PACKET_MAX),
+    )
 }
 
 /// `KIND frame N time T access yes|no unreferenced yes|no payload BYTES place LENGTH`
-fn parse_write_header(heap: Global, words: &mut Telling) -> Result<Command, LineFault> {
-    let header = parse_header_facts(words)?;
-    words.keyword(b"payload")?;
-    let payload = words.bytes(heap)?;
-    words.keyword(b"place")?;
-    let buffer_len = words.number()?;
-    Ok(Command::WriteHeader {
+fn parse_write_header(heap: Global, arguments: &mut Arguments) -> Result<Request, LineFault>
+    ensures { IfOk result (λ r. word_of_request r ≡ codes "write-header") }
+{
+    let header = parse_header_facts(arguments)?;
+    arguments.keyword(b"payload")?;
+    let payload = arguments.bytes(heap)?;
+    arguments.keyword(b"place")?;
+    let buffer_len = arguments.number()?;
+    Ok(Request::WriteHeader {
         header,
         payload,
         buffer_len,
@@ -104,16 +106,16 @@ fn parse_write_header(heap: Global, words: &mut Telling) -> Result<Command, Line
 }
 
 /// `KIND frame N time T access yes|no unreferenced yes|no`
-fn parse_header_facts(words: &mut Telling) -> Result<SyncHeader, LineFault> {
-    let kind = words.kind()?;
-    words.keyword(b"frame")?;
-    let frame_id = words.frame_id()?;
-    words.keyword(b"time")?;
-    let timestamp = words.timestamp()?;
-    words.keyword(b"access")?;
-    let access_point = words.yes_or_no()?;
-    words.keyword(b"unreferenced")?;
-    let unreferenced = words.yes_or_no()?;
+fn parse_header_facts(arguments: &mut Arguments) -> Result<SyncHeader, LineFault> {
+    let kind = arguments.kind()?;
+    arguments.keyword(b"frame")?;
+    let frame_id = arguments.number_or_none()?;
+    arguments.keyword(b"time")?;
+    let timestamp = arguments.number_or_none()?;
+    arguments.keyword(b"access")?;
+    let access_point = arguments.yes_or_no()?;
+    arguments.keyword(b"unreferenced")?;
+    let unreferenced = arguments.yes_or_no()?;
     Ok(SyncHeader {
         kind,
         frame_id,
@@ -124,33 +126,31 @@ fn parse_header_facts(words: &mut Telling) -> Result<SyncHeader, LineFault> {
 }
 
 /// `ID fasb on|off checksum none|crc16 service plain|sync ring MEMORY`, or at the end `reel BYTES`
-fn parse_flow(heap: Global, words: &mut Telling) -> Result<FlowSetup, LineFault> {
-    let id = words.flow_id()?;
-    words.keyword(b"fasb")?;
-    let fasb = words.on_or_off()?;
-    words.keyword(b"checksum")?;
-    let checksum = words.checksum_kind()?;
-    words.keyword(b"service")?;
-    let service = words.service_kind()?;
-    let source = parse_source(heap, words)?;
+fn parse_flow(heap: Global, arguments: &mut Arguments) -> Result<FlowSetup<usize>, LineFault> {
+    let id = arguments.number()?;
+    arguments.keyword(b"fasb")?;
+    let fasb = arguments.on_or_off()?;
+    arguments.keyword(b"checksum")?;
+    let checksum = arguments.checksum()?;
+    arguments.keyword(b"service")?;
+    let service = arguments.service()?;
+    let source = parse_source(heap, arguments)?;
     Ok(FlowSetup {
         id,
-        fasb,
-        checksum,
-        service,
+        terms: Terms {
+            checksum,
+            service,
+            fasb,
+        },
         source,
     })
 }
 
 /// `ring MEMORY` or `reel BYTES`
-fn parse_source(heap: Global, words: &mut Telling) -> Result<Source, LineFault> {
-    match words.word()? {
-        b"ring" => Ok(Source::Ring {
-            memory: words.number()?,
-        }),
-        b"reel" => Ok(Source::Reel {
-            reel: words.bytes(heap)?,
-        }),
+fn parse_source(heap: Global, arguments: &mut Arguments) -> Result<Source<usize>, LineFault> {
+    match arguments.word()? {
+        b"ring" => Ok(Source::Ring(arguments.number()?)),
+        b"reel" => Ok(Source::Reel(arguments.bytes(heap)?)),
         _ => Err(LineFault::UnknownWord),
     }
 }

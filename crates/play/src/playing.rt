@@ -1,4 +1,8 @@
-use crate::command::Command;
+ghost use Rattle.std.specs.Prelude.{◌≡◌, Some};
+ghost use Rattle.play.specs.Words.{fault_words};
+ghost use Rattle.play.specs.declared.playing.PlayFault.TheVariants.{Memory, Output};
+
+use crate::command::{Command, Request};
 use crate::parsing::parse;
 use crate::stage::Stage;
 use channel::pattern::FadePattern;
@@ -7,6 +11,7 @@ use script::step::Step;
 use spelling::fault::LineFault;
 use spelling::lines::{Lines, without_return};
 use std::alloc::{AllocError, AllocFailed, Global};
+use std::error::Error;
 use std::fmt;
 use wording::answering::{
     checksum_text, fade_text, fragments_text, header_text, reel_text, write_header_text,
@@ -14,7 +19,7 @@ use wording::answering::{
 use wording::replies::reply_text;
 
 /// Why a script was not played to its end.
-#[derive(Clone, Copy)]
+#[derive(Clone, Copy, PartialEq, Eq, Debug)]
 pub enum PlayFault {
     /// There is no memory to go on.
     Memory,
@@ -22,19 +27,39 @@ pub enum PlayFault {
     Output,
 }
 
+/// What is wrong, in words.
+impl fmt::Display for PlayFault {
+    ghost output = { λ fault. Some (fault_words fault) };
+
+    fn fmt<W: fmt::Write>(&self, f: &mut fmt::Formatter<W>) -> fmt::Result {
+        f.write_str(match self {
+            PlayFault::Memory => "there is no memory to go on",
+            PlayFault::Output => "the output takes no more",
+        })
+    }
+}
+
+impl Error for PlayFault {}
+
 impl From<AllocError> for PlayFault {
+    ghost from_gives = { λ _ r. r ≡ Memory };
+
     fn from(_fault: AllocError) -> PlayFault {
         PlayFault::Memory
     }
 }
 
 impl<T: Drop> From<AllocFailed<T>> for PlayFault {
+    ghost from_gives = { λ _ r. r ≡ Memory };
+
     fn from(_fault: AllocFailed<T>) -> PlayFault {
         PlayFault::Memory
     }
 }
 
 impl From<fmt::Error> for PlayFault {
+    ghost from_gives = { λ _ r. r ≡ Output };
+
     fn from(_fault: fmt::Error) -> PlayFault {
         PlayFault::Output
     }
@@ -63,12 +88,10 @@ struct Scene {
 pub fn play<W: fmt::Write>(heap: Global, script: &[u8], out: &mut W) -> Result<(), PlayFault> {
     let mut fade = FadePattern::new();
     let mut scene = Scene::before_flows(heap);
-    let mut number = 0u64;
-    let mut lines = Lines::of(script);
-    while let Some(line) = lines.next_line() {
-        number = number.saturating_add(1);
+    for (number, line) in (1u64..).zip(Lines::of(script)) {
         match parse(heap, without_return(line)) {
             Ok(None) => {}
+            Ok(Some(Command::Request(request))) => scene.say(answer(heap, &request, &mut fade)?)?,
             Ok(Some(Command::Flow(setup))) => match Stage::new(heap, setup, fade) {
                 Ok(stage) => {
                     scene.perform(heap, out)?;
@@ -77,7 +100,6 @@ pub fn play<W: fmt::Write>(heap: Global, script: &[u8], out: &mut W) -> Result<(
                 Err(fault) => scene.say_error(heap, number, fault)?,
             },
             Ok(Some(Command::Step(step))) => scene.add_step(heap, number, step)?,
-            Ok(Some(command)) => scene.say(answer(heap, &command, &mut fade)?)?,
             Err(fault) => scene.say_error(heap, number, fault)?,
         }
     }
@@ -85,20 +107,20 @@ pub fn play<W: fmt::Write>(heap: Global, script: &[u8], out: &mut W) -> Result<(
 }
 
 /// What a command that needs no flow prints.
-fn answer(heap: Global, command: &Command, fade: &mut FadePattern) -> Result<String, AllocError> {
-    match command {
-        Command::Checksum { kind, message } => checksum_text(heap, *kind, message.as_slice()),
-        Command::Header { packet } => header_text(heap, packet.as_slice()),
-        Command::WriteHeader {
+fn answer(heap: Global, request: &Request, fade: &mut FadePattern) -> Result<String, AllocError> {
+    match request {
+        Request::Checksum { checksum, message } => {
+            checksum_text(heap, *checksum, message.as_slice())
+        }
+        Request::Header { packet } => header_text(heap, packet.as_slice()),
+        Request::WriteHeader {
             header,
             payload,
             buffer_len,
         } => write_header_text(heap, header, payload.as_slice(), *buffer_len),
-        Command::Fragments { frame } => fragments_text(heap, frame.as_slice()),
-        Command::Reel { reel } => reel_text(heap, reel.as_slice()),
-        Command::Fade { pattern } => fade_text(heap, fade, pattern.as_slice()),
-        Command::Flow(_) => Ok(String::new(heap)),
-        Command::Step(_) => Ok(String::new(heap)),
+        Request::Fragments { frame } => fragments_text(heap, frame.as_slice()),
+        Request::Reel { reel } => reel_text(heap, reel.as_slice()),
+        Request::Fade { pattern } => fade_text(heap, fade, pattern.as_slice()),
     }
 }
 
@@ -113,14 +135,11 @@ impl Scene {
 
     /// The first step of a flow asks for its room.
     fn with_flow(heap: Global, stage: Stage) -> Result<Scene, PlayFault> {
-        let mut steps = Vec::new(heap);
-        let mut entries = Vec::new(heap);
-        steps.push(Step::Room)?;
-        entries.push(Entry::SetUp { id: stage.id })?;
+        let entry = Entry::SetUp { id: stage.id() };
         Ok(Scene {
             stage: Some(stage),
-            steps,
-            entries,
+            steps: vec![in heap; Step::Room]?,
+            entries: vec![in heap; entry]?,
         })
     }
 
@@ -155,17 +174,12 @@ impl Scene {
         };
         let mut replies = replies.into_iter();
         for entry in entries {
-            match entry {
-                Entry::Said(text) => out.write_str(text.as_str())?,
-                Entry::SetUp { id } => out.write_str(setup_text(
-                    heap,
-                    id,
-                    replies.next(),
-                )?.as_str())?,
-                Entry::Awaits { line } => {
-                    out.write_str(step_text(heap, line, replies.next())?.as_str())?
-                }
-            }
+            let text = match entry {
+                Entry::Said(text) => text,
+                Entry::SetUp { id } => setup_text(heap, id, replies.next())?,
+                Entry::Awaits { line } => step_text(heap, line, replies.next())?,
+            };
+            out.write_str(text.as_str())?;
         }
         Ok(())
     }

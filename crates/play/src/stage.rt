@@ -4,18 +4,17 @@ use channel::fade::Fade;
 use channel::pattern::FadePattern;
 use channel::ring::Ring;
 use checksum::checksum::Checksum;
+use checksum::choice::ChecksumChoice;
 use checksum::crc16::Crc16;
 use checksum::none::NoChecksum;
+use receiver::terms::Terms;
 use reel::playing::ReelChannel;
 use script::reply::Reply;
 use script::running::{Outcome, run_steps};
 use script::step::Step;
-use service::plain::Plain;
-use service::service::Service;
-use service::sync::Sync;
+use service::choice::ServiceChoice;
 use spelling::fault::LineFault;
 use std::alloc::Global;
-use wording::kinds::{ChecksumKind, ServiceKind};
 
 /// The largest ring that is set up: its memory is written before the flow begins.
 const RING_MAX: usize = 1 << 30;
@@ -23,136 +22,93 @@ const RING_MAX: usize = 1 << 30;
 /// A flow that is to be set up, with the memory of its channel.
 #[derive(Drop)]
 pub struct Stage {
-    pub id: u16,
-    fasb: bool,
-    checksum: ChecksumKind,
-    service: ServiceKind,
-    memory: Memory,
+    setup: FlowSetup<Vec<u8>>,
     fade: FadePattern,
-}
-
-/// What lies below the fade.
-#[derive(Drop)]
-enum Memory {
-    Ring(Vec<u8>),
-    Reel(Vec<u8>),
-}
-
-/// The parts of a set-up that are no channel.
-#[derive(Clone, Copy)]
-struct Parts {
-    id: u16,
-    fasb: bool,
-    checksum: ChecksumKind,
-    service: ServiceKind,
 }
 
 impl Stage {
     /// Makes the memory of the channel.
     pub(crate) fn new(
         heap: Global,
-        setup: FlowSetup,
+        setup: FlowSetup<usize>,
         fade: FadePattern,
     ) -> Result<Stage, LineFault> {
-        let FlowSetup {
-            id,
-            fasb,
-            checksum,
-            service,
-            source,
-        } = setup;
-        let memory = match source {
-            Source::Ring { memory } => {
-                if memory > RING_MAX {
-                    return Err(LineFault::RingTooLarge);
-                }
-                Memory::Ring(vec![in heap; 0u8; memory]?)
-            }
-            Source::Reel { reel } => Memory::Reel(reel),
+        let FlowSetup { id, terms, source } = setup;
+        let source = match source {
+            Source::Ring(size) if size > RING_MAX => return Err(LineFault::RingTooLarge),
+            Source::Ring(size) => Source::Ring(vec![in heap; 0u8; size]?),
+            Source::Reel(reel) => Source::Reel(reel),
         };
         Ok(Stage {
-            id,
-            fasb,
-            checksum,
-            service,
-            memory,
+            setup: FlowSetup { id, terms, source },
             fade,
         })
+    }
+
+    /// The id of the flow.
+    pub(crate) fn id(&self) -> u16 {
+        self.setup.id
     }
 
     /// Sets the flow up, does the steps, and gives what they answered. There are fewer answers than steps only where memory
     /// ran out.
     pub(crate) fn run(self, heap: Global, steps: &[Step]) -> Vec<Reply> {
-        let Stage {
-            id,
-            fasb,
-            checksum,
-            service,
-            memory,
-            fade,
-        } = self;
-        let parts = Parts {
-            id,
-            fasb,
-            checksum,
-            service,
-        };
-        match memory {
-            Memory::Ring(mut bytes) => {
-                let ring = Ring::new(bytes.as_mut_slice());
-                run_over(heap, Fade::over(ring, fade), parts, steps)
+        let Stage { setup, fade } = self;
+        let FlowSetup { id, terms, source } = setup;
+        match source {
+            Source::Ring(mut memory) => {
+                let ring = Ring::new(memory.as_mut_slice());
+                run_over(heap, Fade::over(ring, fade), terms, id, steps)
             }
-            Memory::Reel(bytes) => {
+            Source::Reel(bytes) => {
                 let reel = ReelChannel::over(bytes.as_slice());
-                run_over(heap, Fade::over(reel, fade), parts, steps)
+                run_over(heap, Fade::over(reel, fade), terms, id, steps)
             }
         }
     }
 }
 
-/// The checksum is chosen.
+/// The checksum is chosen: which one it is belongs to a flow's type.
 fn run_over<C: Channel + Drop>(
     heap: Global,
     channel: C,
-    parts: Parts,
+    terms: Terms<ChecksumChoice, ServiceChoice>,
+    id: u16,
     steps: &[Step],
 ) -> Vec<Reply> {
-    match parts.checksum {
-        ChecksumKind::Without => run_checked(heap, channel, NoChecksum, parts, steps),
-        ChecksumKind::Crc16 => run_checked(heap, channel, Crc16, parts, steps),
+    match terms.checksum {
+        ChecksumChoice::Without => {
+            run_flow(heap, channel, with_checksum(terms, NoChecksum), id, steps)
+        }
+        ChecksumChoice::Crc16 => run_flow(heap, channel, with_checksum(terms, Crc16), id, steps),
     }
 }
 
-/// The service is chosen.
-fn run_checked<C: Channel + Drop, K: Checksum + Drop>(
-    heap: Global,
-    channel: C,
+/// The same terms, with this checksum. (Terms cannot be changed in place, since another checksum is another type.)
+fn with_checksum<K>(
+    terms: Terms<ChecksumChoice, ServiceChoice>,
     checksum: K,
-    parts: Parts,
-    steps: &[Step],
-) -> Vec<Reply> {
-    match parts.service {
-        ServiceKind::Plain => run_flow(heap, channel, checksum, Plain, parts, steps),
-        ServiceKind::Sync => run_flow(heap, channel, checksum, Sync, parts, steps),
+) -> Terms<K, ServiceChoice> {
+    Terms {
+        checksum,
+        service: terms.service,
+        fasb: terms.fasb,
     }
 }
 
 /// The flow runs, by the call that runs a script: the answers are those of its outcome. At its end a superframe that is still open is closed.
-fn run_flow<C: Channel + Drop, K: Checksum + Drop, S: Service + Drop>(
+fn run_flow<C: Channel + Drop, K: Checksum + Drop>(
     heap: Global,
     channel: C,
-    checksum: K,
-    service: S,
-    parts: Parts,
+    terms: Terms<K, ServiceChoice>,
+    id: u16,
     steps: &[Step],
 ) -> Vec<Reply> {
     let Outcome {
         session,
         replies,
         done: _,
-    } = run_steps(
-        heap, channel, checksum, service, parts.id, parts.fasb, steps,
-    );
+    } = run_steps(heap, channel, terms, id, steps);
     let _channel = session.end().into_channel();
     replies
 }

@@ -1,8 +1,7 @@
 //! Plays the script on standard input. Its stored run walks through every command and every kind of answer.
 #![tactic(auto)]
 
-use anyhow::anyhow;
-use play::playing::{PlayFault, play};
+use play::playing::play;
 use std::io::Read;
 
 fn main(rt: HostRuntime) -> anyhow::Result<()> {
@@ -11,9 +10,5 @@ fn main(rt: HostRuntime) -> anyhow::Result<()> {
     let mut text = String::new(rt.alloc());
     let played = play(rt.alloc(), script.as_slice(), &mut text);
     rt.print(text.as_str())?;
-    match played {
-        Ok(()) => Ok(()),
-        Err(PlayFault::Memory) => Err(anyhow!("there is no memory to go on")),
-        Err(PlayFault::Output) => Err(anyhow!("the output takes no more")),
-    }
+    Ok(played?)
 }

@@ -1,5 +1,5 @@
 -- The events of steps: each step has them, and each is the exact step of the rules.
-use Rattle.std.proofs.Common.{◌≡◌, ℕ, List, [], ◌∷◌, ◌++◌, map, length, take, replicate, Ok, Err, vec_items, Option, Result, Vec, sym, refl, ap, ◌∙◌, subst, ap₂, arith}
+use Rattle.std.proofs.Common.{◌≡◌, ℕ, List, [], ◌∷◌, ◌++◌, map, length, take, replicate, Some, None, Ok, Err, vec_items, Option, Result, Vec, sym, refl, ap, ◌∙◌, subst, ap₂, arith}
 use Rattle.std.specs.List.{AllByRecursion}
 use Rattle.std.specs.declared.alloc.Global.{Global}
 use Rattle.std.proofs.lemmas.List.{take-take}
@@ -12,20 +12,17 @@ use Rattle.receiver.specs.Answering as answering
 use Rattle.runlaw.specs.History as history
 use Rattle.runlaw.specs.History.{Event, History, reading, answers}
 use Rattle.flow.specs.declared.faults.OpenFault.{OpenFault}
-use Rattle.flow.specs.declared.faults.OfferFault.{OfferFault}
 use Rattle.flow.specs.declared.flow.Flow.{Flow}
 use Rattle.flow.specs.declared.token.SuperframeToken.{SuperframeToken}
 use Rattle.flow.specs.Calls.{Tied}
-use Rattle.flow.specs.Happening.{opening_reply, offer_reply, reading_reply}
+use Rattle.flow.specs.Happening.{opening_reply, reading_reply}
 use Rattle.flow.proofs.Happens.{event_opening, event_offer, event_closing, event_reading}
-use Rattle.script.specs.declared.hand.Hand.{Hand}
-use Rattle.script.specs.declared.hand.Hand.TheVariants.{Empty, Holds}
 use Rattle.script.specs.declared.reply.Answered.{Answered}
 use Rattle.script.specs.declared.reply.Reply.{Reply}
 use Rattle.script.specs.declared.session.Session.{Session}
 use Rattle.script.specs.declared.step.Step.{Step}
 use Rattle.script.specs.declared.step.Step.TheVariants.{Open, Offer, Close, Drain}
-use Rattle.script.specs.Answers.{opening_answer, offer_answer, handed_out}
+use Rattle.script.specs.Answers.{opening_answer, handed_out}
 use Rattle.script.specs.Events.{Makes, answer_told, told, EventsOf, Tells, ByTheRules, by_opening, by_offer, by_closing, by_reading, Goes}
 use Rattle.script.specs.Scripts.{Follows}
 use Rattle.script.specs.Steps.{OffersFrom, ClosesFrom, ReadInto, ReadsOn, Does}
@@ -35,10 +32,6 @@ use Rattle.script.specs.Steps.{OffersFrom, ClosesFrom, ReadInto, ReadsOn, Does}
 opening_told : (answer : Result SuperframeToken OpenFault) → told (opening_answer answer) ≡ opening_reply answer ∷ []
 opening_told (Ok token) = refl
 opening_told (Err e) = refl
-
-offer_told : (answer : Result (Unit {0}) OfferFault) → told (offer_answer answer) ≡ offer_reply answer ∷ []
-offer_told (Ok x) = refl
-offer_told (Err e) = refl
 
 -- of the buffer only the packet that was handed out is told
 reading_kept : (answer : Result Reading BufferTooShort) (after : List ℕ) → reading_reply answer (take (handed_out answer) after) ≡ reading_reply answer after
@@ -114,19 +107,19 @@ module _
             (mid.flow, one.3, rest.3),
           )
 
-      offer_events : (hand : Hand) (packet : Vec ℕ Global) (reply : Reply) (old new : Session C K S)
+      offer_events : (hand : Option SuperframeToken) (packet : Vec ℕ Global) (reply : Reply) (old new : Session C K S)
           → OffersFrom slots space made tied width value verdict hand (vec_items packet) reply old new → Tied space tied old.flow → Has (Offer packet) reply old.flow new.flow
-      offer_events Empty packet reply old new done ties = has_none (Offer packet) reply old.flow new.flow (ap told done.reply_is) done.same.0
-      offer_events (Holds token) packet reply old new done ties =
+      offer_events None packet reply old new done ties = has_none (Offer packet) reply old.flow new.flow (ap told done.reply_is) done.same.0
+      offer_events (Some token) packet reply old new done ties =
           let has = event_offer slots space made tied width reach value verdict sized detects token (vec_items packet) done.answer old.flow new.flow done.exact ties in
           has_one (Offer packet) reply old.flow new.flow has.0 has.1.call_is
-          (ap told done.reply_is ∙ offer_told done.answer ∙ ap (λ (r : history.Reply). r ∷ []) (sym has.1.reply_is))
+          (ap told done.reply_is ∙ ap (λ (r : history.Reply). r ∷ []) (sym has.1.reply_is))
           (by_offer token (vec_items packet) done.answer done.exact has.1)
 
-      close_events : (hand : Hand) (reply : Reply) (old new : Session C K S)
+      close_events : (hand : Option SuperframeToken) (reply : Reply) (old new : Session C K S)
           → ClosesFrom slots space made tied width value verdict hand reply old new → Tied space tied old.flow → Has Close reply old.flow new.flow
-      close_events Empty reply old new done ties = has_none Close reply old.flow new.flow (ap told done.reply_is) done.same.0
-      close_events (Holds token) reply old new done ties =
+      close_events None reply old new done ties = has_none Close reply old.flow new.flow (ap told done.reply_is) done.same.0
+      close_events (Some token) reply old new done ties =
           let has = event_closing slots space made tied width reach value verdict sized detects token (Ok tt) old.flow new.flow done.exact ties in
           has_one Close reply old.flow new.flow has.0 has.1.call_is
           (ap told done.reply_is ∙ ap (λ (r : history.Reply). r ∷ []) (sym has.1.reply_is))

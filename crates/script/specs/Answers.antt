@@ -2,30 +2,23 @@
 use Rattle.std.specs.Prelude.{◌≡◌, ℕ, List, [], ◌∷◌, ◌++◌, Some, None, Ok, Err, vec_items, Option, Result}
 use Rattle.std.specs.List.{AllByRecursion}
 use Rattle.flow.specs.declared.faults.OpenFault.{OpenFault}
-use Rattle.flow.specs.declared.faults.OfferFault.{OfferFault}
 use Rattle.flow.specs.declared.token.SuperframeToken.{SuperframeToken}
 use Rattle.receiver.specs.declared.answer.Reading.{Reading}
 use Rattle.receiver.specs.declared.answer.Reading.TheVariants.{Nothing}
 use Rattle.receiver.specs.declared.answer.BufferTooShort.{BufferTooShort}
 use Rattle.receiver.specs.Readings.{said_length}
-use Rattle.script.specs.declared.hand.Hand.{Hand}
-use Rattle.script.specs.declared.hand.Hand.TheVariants.{Holds}
 use Rattle.script.specs.declared.reply.Answered.{Answered}
 use Rattle.script.specs.declared.reply.Reply.{Reply}
-use Rattle.script.specs.declared.reply.Reply.TheVariants.{Opened, NotOpened, Accepted, NotAccepted, Closed, NoToken, Read, Drained, Room, Waits}
+use Rattle.script.specs.declared.reply.Reply.TheVariants.{Opening, Offer, Closed, NoToken, Read, Drained, Room, Waits}
 
 abbrev pub opening_answer : Result SuperframeToken OpenFault → Reply
-opening_answer (Ok token) = Opened
-opening_answer (Err e) = NotOpened e
+opening_answer (Ok token) = Opening (Ok tt)
+opening_answer (Err e) = Opening (Err e)
 
 -- an accepted opening gives the token; a refused one leaves the hand as it was
-abbrev pub hand_after : Result SuperframeToken OpenFault → Hand → Hand
-hand_after (Ok token) hand = Holds token
+abbrev pub hand_after : Result SuperframeToken OpenFault → Option SuperframeToken → Option SuperframeToken
+hand_after (Ok token) hand = Some token
 hand_after (Err e) hand = hand
-
-abbrev pub offer_answer : Result (Unit {0}) OfferFault → Reply
-offer_answer (Ok _) = Accepted
-offer_answer (Err e) = NotAccepted e
 
 -- How many bytes at the front of the buffer are a packet that was handed out.
 
@@ -53,10 +46,8 @@ pub record ThroughNothing (answers : List Answered) : Type 0 where
   pub then : IsNothing last
 
 abbrev pub Whole : Reply → Type 0
-Whole Opened = Unit {0}
-Whole (NotOpened e) = Unit {0}
-Whole Accepted = Unit {0}
-Whole (NotAccepted e) = Unit {0}
+Whole (Opening answer) = Unit {0}
+Whole (Offer answer) = Unit {0}
 Whole Closed = Unit {0}
 Whole NoToken = Unit {0}
 Whole (Read a) = Unit {0}

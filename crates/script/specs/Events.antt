@@ -1,5 +1,5 @@
 -- The history of a script: which events its steps are, and that each is the exact step of the rules.
-use Rattle.std.specs.Prelude.{◌≡◌, ℕ, List, [], ◌∷◌, ◌++◌, map, None, vec_items, Option, Result}
+use Rattle.std.specs.Prelude.{◌≡◌, ℕ, List, [], ◌∷◌, ◌++◌, map, None, Ok, Err, vec_items, Option, Result}
 use Rattle.std.specs.List.{AllByRecursion}
 use Rattle.framing.specs.declared.slot.Slot.{Slot}
 use Rattle.receiver.specs.declared.answer.Reading.{Reading}
@@ -13,12 +13,12 @@ use Rattle.flow.specs.declared.flow.Flow.{Flow}
 use Rattle.flow.specs.declared.token.SuperframeToken.{SuperframeToken}
 use Rattle.flow.specs.Calls.{OpeningAnswer, OfferAnswer, ClosingAnswer, ReadingAnswer, outcome}
 use Rattle.flow.specs.Happening.{EventOf, opening_reply, offer_reply, closing_reply, reading_reply, if_accepted}
-use Rattle.flow.specs.Numbers.{open_number, offer_number, inside}
+use Rattle.flow.specs.Numbers.{open_number}
 use Rattle.flow.specs.Writing as writing
 use Rattle.flow.specs.Writing.{state_of}
 use Rattle.script.specs.declared.reply.Answered.{Answered}
 use Rattle.script.specs.declared.reply.Reply.{Reply}
-use Rattle.script.specs.declared.reply.Reply.TheVariants.{Opened, NotOpened, Accepted, NotAccepted, Closed, NoToken, Drained}
+use Rattle.script.specs.declared.reply.Reply.TheVariants.{Opening, Closed, NoToken, Drained}
 use Rattle.script.specs.declared.step.Step.{Step}
 use Rattle.script.specs.declared.step.Step.TheVariants.{Open, Offer, Close, Drain}
 
@@ -39,10 +39,9 @@ abbrev pub answer_told : Answered → history.Reply
 answer_told a = reading_reply a.answer (vec_items a.packet)
 
 abbrev pub told : Reply → List history.Reply
-told Opened = done ∷ []
-told (NotOpened e) = refused (open_number e) None ∷ []
-told Accepted = done ∷ []
-told (NotAccepted e) = refused (offer_number e) (inside e) ∷ []
+told (Opening (Ok x)) = done ∷ []
+told (Opening (Err e)) = refused (open_number e) None ∷ []
+told (Reply.Offer answer) = offer_reply answer ∷ []
 told Closed = done ∷ []
 told NoToken = []
 told (Reply.Read a) = answer_told a ∷ []

@@ -1,16 +1,18 @@
 -- Runs of scripts, and the run law on them.
-use Rattle.std.specs.Prelude.{◌≡◌, ℕ, Bool, ◌⊎◌, List, [], ◌∷◌, ◌++◌, map, length, take, Ok, Err, vec_items, Option, Result, Vec}
+use Rattle.std.specs.Prelude.{◌≡◌, ℕ, Bool, ◌⊎◌, List, [], ◌∷◌, ◌++◌, map, length, take, None, Ok, Err, vec_items, Option, Result, Vec}
 use Rattle.std.specs.declared.alloc.AllocError.{AllocError}
 use Rattle.std.specs.declared.alloc.Global.{Global}
 use Rattle.std.specs.List.{AllByRecursion}
+use Rattle.std.specs.Option.{is_some}
 use Rattle.framing.specs.declared.slot.Slot.{Slot}
 use Rattle.channel.specs.Sending.{became, AllMade}
+use Rattle.receiver.specs.declared.terms.Terms.{Terms}
 use Rattle.runlaw.specs.History.{History, all_sent, all_taken}
 use Rattle.runlaw.specs.Law.{RunLaw}
 use Rattle.flow.specs.Calls.{SetUp}
 use Rattle.flow.specs.Happening.{HistoryOf}
+use Rattle.flow.specs.Writing.{state_of}
 use Rattle.flow.specs.declared.flow.Flow.{Flow}
-use Rattle.script.specs.declared.hand.Hand.TheVariants.{Empty}
 use Rattle.script.specs.declared.reply.Answered.{Answered}
 use Rattle.script.specs.declared.reply.Reply.{Reply}
 use Rattle.script.specs.declared.reply.Reply.TheVariants.{Drained}
@@ -19,7 +21,6 @@ use Rattle.script.specs.declared.session.Session.{Session}
 use Rattle.script.specs.declared.step.Step.{Step}
 use Rattle.script.specs.Answers.{NotNothing, Whole}
 use Rattle.script.specs.Events.{Tells, Goes}
-use Rattle.script.specs.Hands.{holding}
 use Rattle.script.specs.Steps.{Does}
 
 -- 1. How far a run came.
@@ -49,6 +50,11 @@ module _
     Follows (step ∷ steps) (reply ∷ replies) old new =
         (mid : Session C K S) × Does slots space made tied width value verdict step reply old mid × Follows steps replies mid new
 
+    -- The steps were taken, so far as the run came.
+    pub record TookSteps (steps : List Step) (replies : List Reply) (done : Result (Unit {0}) AllocError) (old new : Session C K S) : Type 0 where
+      pub comes : Comes done steps replies
+      pub follows : Follows (take (length replies) steps) replies old new
+
     -- 2. The history of a run over a channel. Its events are those of the steps, each the exact step of the rules. Each frame that was
     -- sent became a slot that the channel may make of that very frame; and what was sent became, behind the slots that waited on the
     -- channel at the start, the slots taken and then those that still wait. Where the channel was empty at the start, the run law holds
@@ -65,20 +71,18 @@ module _
     -- 3. A script on a new flow. `start` is the session at the beginning, and the steps done are the first of the list, one for each
     -- reply.
     pub record RanScript
-        (reach : ℕ) (channel : C) (checksum : K) (service : S) (id : ℕ) (fasb : Bool) (steps : List Step) (outcome : Outcome C K S) : Type 0 where
+        (reach : ℕ) (channel : C) (terms : Terms K S) (id : ℕ) (steps : List Step) (outcome : Outcome C K S) : Type 0 where
       pub start : Session C K S
-      pub set_up : SetUp space tied channel checksum service id fasb start.flow
-      pub hand_empty : start.hand ≡ Empty
+      pub set_up : SetUp space tied channel terms id start.flow
+      pub hand_empty : start.hand ≡ None
       pub comes : Comes outcome.done steps (vec_items outcome.replies)
       pub follows :
           Follows (take (length (vec_items outcome.replies)) steps) (vec_items outcome.replies) start outcome.session
       pub runs :
           tied channel
-          → Ran reach channel fasb (take (length (vec_items outcome.replies)) steps) (vec_items outcome.replies) start.flow
+          → Ran reach channel terms.fasb (take (length (vec_items outcome.replies)) steps) (vec_items outcome.replies) start.flow
           outcome.session.flow
       -- what was handed in is there still, and a token is in hand exactly where a superframe is open
-      pub checksum_is : outcome.session.flow.checksum ≡ checksum
-      pub service_is : outcome.session.flow.service ≡ service
+      pub terms_is : outcome.session.flow.terms ≡ terms
       pub id_is : outcome.session.flow.id ≡ id
-      pub fasb_is : outcome.session.flow.fasb ≡ fasb
-      pub in_hand : holding outcome.session.hand ≡ outcome.session.flow.writer.opened
+      pub in_hand : is_some outcome.session.hand ≡ (state_of outcome.session.flow.writer).opened

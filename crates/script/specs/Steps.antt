@@ -1,7 +1,7 @@
 -- What each step does to a session, and what it answers. `slots` is the list of slots that wait on the flow's channel, `space`
 -- the channel's room, `made` what it may make of a frame, and `tied` what ties it to what lies below it; the checksum has this
 -- width and this value of each packet, and the service this verdict on each.
-use Rattle.std.specs.Prelude.{◌≡◌, ℕ, List, [], ◌∷◌, take, replicate, Ok, vec_items, Option, Result, Vec}
+use Rattle.std.specs.Prelude.{◌≡◌, ℕ, List, [], ◌∷◌, take, replicate, Some, None, Ok, Err, vec_items, Option, Result, Vec}
 use Rattle.std.specs.declared.alloc.Global.{Global}
 use Rattle.std.specs.List.{AllByRecursion}
 use Rattle.framing.specs.declared.slot.Slot.{Slot}
@@ -11,17 +11,15 @@ use Rattle.flow.specs.declared.faults.OfferFault.{OfferFault}
 use Rattle.flow.specs.declared.flow.Flow.{Flow}
 use Rattle.flow.specs.declared.token.SuperframeToken.{SuperframeToken}
 use Rattle.flow.specs.Calls.{OpeningAnswer, OfferAnswer, ClosingAnswer, ReadingAnswer}
-use Rattle.script.specs.declared.hand.Hand.{Hand}
-use Rattle.script.specs.declared.hand.Hand.TheVariants.{Empty, Holds}
 use Rattle.script.specs.declared.reply.Answered.{Answered}
 use Rattle.script.specs.declared.reply.Reply.{Reply}
 use Rattle.script.specs.declared.reply.Reply.TheVariants.{Closed, NoToken, Drained}
-use Rattle.script.specs.declared.progress.Progress.{Progress}
-use Rattle.script.specs.declared.progress.Progress.TheVariants.{Done, CutShort, NotBegun}
 use Rattle.script.specs.declared.session.Session.{Session}
 use Rattle.script.specs.declared.step.Step.{Step}
 use Rattle.script.specs.declared.step.Step.TheVariants.{Open, Offer, Close, Drain}
-use Rattle.script.specs.Answers.{opening_answer, hand_after, offer_answer, handed_out, NotNothing, Whole}
+use Rattle.script.specs.declared.stopped.Stopped.{Stopped}
+use Rattle.script.specs.declared.stopped.Stopped.TheVariants.{BeforeIt, InDrain}
+use Rattle.script.specs.Answers.{opening_answer, hand_after, handed_out, NotNothing, Whole}
 
 -- Neither the flow nor the hand changed.
 abbrev pub Same : {C K S : Type 0} → (old new : Session C K S) → Type 0
@@ -41,28 +39,28 @@ module _
     -- An offer with this token, which comes back into the hand.
     pub record Offers (token : SuperframeToken) (packet : List ℕ) (reply : Reply) (old new : Session C K S) : Type 0 where
       pub answer : Result (Unit {0}) OfferFault
-      pub reply_is : reply ≡ offer_answer answer
+      pub reply_is : reply ≡ Reply.Offer answer
       pub exact : OfferAnswer slots space made tied width value verdict token packet answer old.flow new.flow
-      pub hand_is : new.hand ≡ Holds token
+      pub hand_is : new.hand ≡ Some token
 
     -- A closing with this token. It is never refused.
     pub record Closes (token : SuperframeToken) (reply : Reply) (old new : Session C K S) : Type 0 where
       pub reply_is : reply ≡ Closed
       pub exact : ClosingAnswer slots space made tied token (Ok tt) old.flow new.flow
-      pub hand_is : new.hand ≡ Empty
+      pub hand_is : new.hand ≡ None
 
     -- With no token in hand, nothing is done.
     pub record HasNoToken (reply : Reply) (old new : Session C K S) : Type 0 where
       pub reply_is : reply ≡ NoToken
       pub same : Same old new
 
-    abbrev pub OffersFrom : Hand → (packet : List ℕ) → Reply → (old new : Session C K S) → Type 0
-    OffersFrom Empty packet = HasNoToken
-    OffersFrom (Holds token) packet = Offers token packet
+    abbrev pub OffersFrom : Option SuperframeToken → (packet : List ℕ) → Reply → (old new : Session C K S) → Type 0
+    OffersFrom None packet = HasNoToken
+    OffersFrom (Some token) packet = Offers token packet
 
-    abbrev pub ClosesFrom : Hand → Reply → (old new : Session C K S) → Type 0
-    ClosesFrom Empty = HasNoToken
-    ClosesFrom (Holds token) = Closes token
+    abbrev pub ClosesFrom : Option SuperframeToken → Reply → (old new : Session C K S) → Type 0
+    ClosesFrom None = HasNoToken
+    ClosesFrom (Some token) = Closes token
 
     -- One reading into a buffer that was so. Only a packet that was handed out is kept of the buffer.
     pub record ReadInto (before : List ℕ) (a : Answered) (old new : Session C K S) : Type 0 where
@@ -102,12 +100,12 @@ module _
     Does Step.Waits reply old new = Question (Reply.Waits (waiting (slots old.flow.channel))) reply old new
 
     -- How far a step came: it is done; or a drain was stopped midway; or nothing was done.
-    abbrev pub Took : Step → Progress → (old new : Session C K S) → Type 0
-    Took step (Done reply) old new = Does step reply old new × Whole reply
-    Took step (CutShort answers) old new = Does step (Drained answers) old new × AllByRecursion NotNothing (vec_items answers)
-    Took step NotBegun old new = new ≡ old
+    abbrev pub Took : Step → Result Reply Stopped → (old new : Session C K S) → Type 0
+    Took step (Ok reply) old new = Does step reply old new × Whole reply
+    Took step (Err (InDrain answers e)) old new = Does step (Drained answers) old new × AllByRecursion NotNothing (vec_items answers)
+    Took step (Err (BeforeIt e)) old new = new ≡ old
 
     -- Ending a session closes the superframe that is open, if any.
-    abbrev pub Ended : Hand → (old new : Flow C K S) → Type 0
-    Ended Empty old new = new ≡ old
-    Ended (Holds token) old new = ClosingAnswer slots space made tied token (Ok tt) old new
+    abbrev pub Ended : Option SuperframeToken → (old new : Flow C K S) → Type 0
+    Ended None old new = new ≡ old
+    Ended (Some token) old new = ClosingAnswer slots space made tied token (Ok tt) old new

@@ -1,11 +1,13 @@
-ghost use Rattle.script.specs.Scripts.{RanScript};
+ghost use Rattle.std.specs.Prelude.{◌≡◌, []};
+ghost use Rattle.script.specs.Scripts.{RanScript, TookSteps};
 
-use crate::progress::Progress;
 use crate::reply::Reply;
 use crate::session::Session;
 use crate::step::Step;
+use crate::stopped::Stopped;
 use channel::channel::Channel;
 use checksum::checksum::Checksum;
+use receiver::terms::Terms;
 use service::service::Service;
 use std::alloc::{AllocError, Global};
 
@@ -23,48 +25,42 @@ pub struct Outcome<C, K, S> {
 pub fn run_steps<C: Channel, K: Checksum, S: Service>(
     heap: Global,
     channel: C,
-    checksum: K,
-    service: S,
+    terms: Terms<K, S>,
     id: u16,
-    fasb: bool,
     steps: &[Step],
 ) -> Outcome<C, K, S>
-    ensures { RanScript C.slots C.space C.made C.tied K.width K.value S.verdict K.reach channel checksum service id fasb steps.now result }
+    ensures { RanScript C.slots C.space C.made C.tied K.width K.value S.verdict K.reach channel terms id steps.now result }
 {
-    let mut session = Session::begin(channel, checksum, service, id, fasb);
+    let mut session = Session::begin(channel, terms, id);
     let mut replies = Vec::new(heap);
-    for step in steps {
-        if let Err(error) = replies.reserve(1) {
-            return Outcome {
-                session,
-                replies,
-                done: Err(error),
-            };
-        }
-        let (next, progress) = session.take_step(heap, step);
-        session = next;
-        match progress {
-            Progress::Done(reply) => replies.push_reserved(reply),
-            Progress::CutShort(answers) => {
-                replies.push_reserved(Reply::Drained(answers));
-                return Outcome {
-                    session,
-                    replies,
-                    done: Err(AllocError),
-                };
-            }
-            Progress::NotBegun => {
-                return Outcome {
-                    session,
-                    replies,
-                    done: Err(AllocError),
-                };
-            }
-        }
-    }
+    let done = take_steps(heap, &mut session, steps, &mut replies);
     Outcome {
         session,
         replies,
-        done: Ok(()),
+        done,
     }
+}
+
+/// Takes the steps one after another, and adds what each answered to the replies, of which there are none yet.
+fn take_steps<C: Channel, K: Checksum, S: Service>(
+    heap: Global,
+    session: &mut Session<C, K, S>,
+    steps: &[Step],
+    replies: &mut Vec<Reply>,
+) -> Result<(), AllocError>
+    requires { replies.old.items ≡ [] }
+    ensures { TookSteps C.slots C.space C.made C.tied K.width K.value S.verdict steps.now replies.new.items result session.old session.new }
+{
+    for step in steps {
+        replies.reserve(1)?;
+        match session.take_step(heap, step) {
+            Ok(reply) => replies.push_reserved(reply),
+            Err(Stopped::BeforeIt(error)) => return Err(error),
+            Err(Stopped::InDrain(answers, error)) => {
+                replies.push_reserved(Reply::Drained(answers));
+                return Err(error);
+            }
+        }
+    }
+    Ok(())
 }

@@ -1,5 +1,5 @@
 /// One step of a script.
-#[derive(Drop)]
+#[derive(PartialEq, Eq, Debug, Drop)]
 pub enum Step {
     /// Open a superframe of so many frames.
     Open { frames: usize },

@@ -1,36 +1,27 @@
-ghost use Rattle.std.specs.Prelude.{◌≡◌, ◌<◌, true, false, replicate, IfOk, Ok, vec_len, vec_capacity, ◌≢◌};
+ghost use Rattle.std.specs.Prelude.{◌≡◌, ◌<◌, true, false, replicate, IfOk, Ok, None, Some, vec_len, vec_capacity, ◌≢◌};
 ghost use Rattle.receiver.specs.declared.answer.Reading.TheVariants.{Nothing};
 ghost use Rattle.flow.specs.Calls.{SetUp};
-ghost use Rattle.script.specs.declared.hand.Hand.TheVariants.{Empty};
+ghost use Rattle.script.specs.declared.reply.Reply.TheVariants.{Opening};
 ghost use Rattle.script.specs.declared.step.Step.TheVariants.{Drain};
-ghost use Rattle.script.specs.Answers.{offer_answer, handed_out};
+ghost use Rattle.script.specs.Answers.{handed_out};
 ghost use Rattle.script.specs.Steps.{Opens, OffersFrom, ClosesFrom, ReadInto, Took, Ended};
 
-use crate::hand::Hand;
-use crate::progress::Progress;
 use crate::reply::{Answered, Reply};
 use crate::session::Session;
 use crate::step::Step;
+use crate::stopped::Stopped;
 use channel::channel::Channel;
 use checksum::checksum::Checksum;
-use flow::faults::{CloseFault, OfferFault};
+use flow::faults::{CloseFault, OpenFault};
 use flow::flow::Flow;
+use flow::token::SuperframeToken;
 use framing::judging::PACKET_MAX;
 use receiver::answer::{BufferTooShort, Reading};
+use receiver::terms::Terms;
 use service::service::Service;
 use std::alloc::{AllocError, Global};
 
-/// What a step that offers answers, where the offer was answered so.
-fn offer_reply(answer: Result<(), OfferFault>) -> Reply
-    ensures { result ≡ offer_answer answer }
-{
-    match answer {
-        Ok(()) => Reply::Accepted,
-        Err(fault) => Reply::NotAccepted(fault),
-    }
-}
-
-/// A buffer of so many zeros.
+/// A buffer of so many zeros. (`vec!` makes no less, but this clause is what both calls are proved by.)
 fn zeros(heap: Global, len: usize) -> Result<Vec<u8>, AllocError>
     ensures { IfOk result (λ v. v.items ≡ replicate len 0) }
 {
@@ -46,202 +37,144 @@ fn ready(heap: Global, answers: &mut Vec<Answered>) -> Result<Vec<u8>, AllocErro
     zeros(heap, PACKET_MAX)
 }
 
-/// Whether a reading answered nothing.
+/// Whether a reading answered nothing. (A call, since the end of a drain is proved by this clause.)
 fn is_nothing(answer: Result<Reading, BufferTooShort>) -> bool
     ensures { (result ≡ true → answer ≡ Ok Nothing) × (result ≡ false → answer ≢ Ok Nothing) }
 {
-    match answer {
-        Ok(Reading::Nothing) => true,
-        _ => false,
-    }
+    matches!(answer, Ok(Reading::Nothing))
 }
 
-/// How many bytes of the buffer are a packet that was handed out.
+/// How many bytes of the buffer are a packet that was handed out. (It takes a refusal too, which the receiver's answer does not hold.)
 fn packet_len(answer: Result<Reading, BufferTooShort>) -> usize
     ensures { result ≡ handed_out answer }
 {
     match answer {
-        Ok(Reading::Sound { len }) => len,
-        Ok(Reading::Damaged { len }) => len,
-        Ok(Reading::Foreign { number: _, len }) => len,
+        Ok(
+            Reading::Sound { len } | Reading::Damaged { len } | Reading::Foreign { number: _, len },
+        ) => len,
         _ => 0,
+    }
+}
+
+/// Puts a token into a hand that is empty. (The crate `boundary` has the same: the flow, which both are over, knows of no hand.)
+fn take_up(hand: &mut Option<SuperframeToken>, token: SuperframeToken)
+    requires { hand.old ≡ None }
+    ensures { hand.new ≡ Some token }
+{
+    match hand.replace(token) {
+        None => {}
+        Some(_held) => unreachable!(),
     }
 }
 
 impl<C: Channel, K: Checksum, S: Service> Session<C, K, S> {
     /// A session on a new flow, with no token in hand.
-    pub(crate) fn begin(
-        channel: C,
-        checksum: K,
-        service: S,
-        id: u16,
-        fasb: bool,
-    ) -> Session<C, K, S>
-        ensures flow { SetUp C.space C.tied channel checksum service id fasb result.flow }
-        ensures hand { result.hand ≡ Empty }
+    pub(crate) fn begin(channel: C, terms: Terms<K, S>, id: u16) -> Session<C, K, S>
+        ensures flow { SetUp C.space C.tied channel terms id result.flow }
+        ensures hand { result.hand ≡ None }
     {
-        let flow = Flow::new(channel, checksum, service, id, fasb);
         Session {
-            flow,
-            hand: Hand::Empty,
+            flow: Flow::new(channel, terms, id),
+            hand: None,
         }
     }
 
     /// An opening. The token comes into the hand.
-    pub(crate) fn open(self, frames: usize) -> (Session<C, K, S>, Reply)
-        ensures { Opens C.slots C.space C.made C.tied K.width K.value S.verdict frames result.1 self result.0 }
+    pub(crate) fn open(&mut self, frames: usize) -> Result<(), OpenFault>
+        ensures { Opens C.slots C.space C.made C.tied K.width K.value S.verdict frames (Opening result) self.old self.new }
     {
-        let Session { mut flow, hand } = self;
-        match flow.opening(frames) {
-            Ok(token) => match hand {
-                Hand::Empty => (
-                    Session {
-                        flow,
-                        hand: Hand::Holds(token),
-                    },
-                    Reply::Opened,
-                ),
-                Hand::Holds(_held) => unreachable(),
-            },
-            Err(fault) => (Session { flow, hand }, Reply::NotOpened(fault)),
-        }
+        let token = self.flow.opening(frames)?;
+        take_up(&mut self.hand, token);
+        Ok(())
     }
 
     /// An offer, with the token in hand.
-    pub(crate) fn offer(self, packet: &[u8]) -> (Session<C, K, S>, Reply)
-        ensures { OffersFrom C.slots C.space C.made C.tied K.width K.value S.verdict self.hand packet.now result.1 self result.0 }
+    pub(crate) fn offer(&mut self, packet: &[u8]) -> Reply
+        ensures { OffersFrom C.slots C.space C.made C.tied K.width K.value S.verdict self.old.hand packet.now result self.old self.new }
     {
-        let Session { mut flow, hand } = self;
-        match hand {
-            Hand::Empty => (
-                Session {
-                    flow,
-                    hand: Hand::Empty,
-                },
-                Reply::NoToken,
-            ),
-            Hand::Holds(token) => {
-                let (token, answer) = flow.offer(token, packet);
-                (
-                    Session {
-                        flow,
-                        hand: Hand::Holds(token),
-                    },
-                    offer_reply(answer),
-                )
-            }
-        }
+        let Some(token) = self.hand.take() else {
+            return Reply::NoToken;
+        };
+        let (token, answer) = self.flow.offer(token, packet);
+        take_up(&mut self.hand, token);
+        Reply::Offer(answer)
     }
 
     /// A closing, with the token in hand. It is never refused.
-    pub(crate) fn close(self) -> (Session<C, K, S>, Reply)
-        ensures { ClosesFrom C.slots C.space C.made C.tied K.width K.value S.verdict self.hand result.1 self result.0 }
+    pub(crate) fn close(&mut self) -> Reply
+        ensures { ClosesFrom C.slots C.space C.made C.tied K.width K.value S.verdict self.old.hand result self.old self.new }
     {
-        let Session { mut flow, hand } = self;
-        match hand {
-            Hand::Empty => (
-                Session {
-                    flow,
-                    hand: Hand::Empty,
-                },
-                Reply::NoToken,
-            ),
-            Hand::Holds(token) => match flow.closing(token) {
-                Ok(()) => (
-                    Session {
-                        flow,
-                        hand: Hand::Empty,
-                    },
-                    Reply::Closed,
-                ),
-                Err(CloseFault::WrongToken(_held)) => unreachable(),
-            },
+        let Some(token) = self.hand.take() else {
+            return Reply::NoToken;
+        };
+        match self.flow.closing(token) {
+            Ok(()) => Reply::Closed,
+            // It never comes, but a token cannot be dropped unseen.
+            Err(CloseFault::WrongToken(_held)) => unreachable!(),
         }
     }
 
     /// One reading into this buffer, of which only a packet that was handed out is kept.
-    pub(crate) fn read(self, mut buffer: Vec<u8>) -> (Session<C, K, S>, Answered)
-        ensures { ReadInto C.slots C.space C.made C.tied K.width K.value S.verdict buffer.items result.1 self result.0 }
+    pub(crate) fn read(&mut self, mut buffer: Vec<u8>) -> Answered
+        ensures { ReadInto C.slots C.space C.made C.tied K.width K.value S.verdict buffer.items result self.old self.new }
     {
-        let Session { mut flow, hand } = self;
-        let answer = flow.reading(buffer.as_mut_slice());
+        let answer = self.flow.reading(buffer.as_mut_slice());
         buffer.truncate(packet_len(answer));
         buffer.shrink_to_fit();
-        (
-            Session { flow, hand },
-            Answered {
-                answer,
-                packet: buffer,
-            },
-        )
+        Answered {
+            answer,
+            packet: buffer,
+        }
     }
 
     /// Readings, each into a buffer of 2,044 bytes, through the first that answers nothing. Memory is asked for before each.
-    pub(crate) fn drain(self, heap: Global) -> (Session<C, K, S>, Progress)
-        ensures { Took C.slots C.space C.made C.tied K.width K.value S.verdict Drain result.1 self result.0 }
+    pub(crate) fn drain(&mut self, heap: Global) -> Result<Reply, Stopped>
+        ensures { Took C.slots C.space C.made C.tied K.width K.value S.verdict Drain result self.old self.new }
     {
-        let mut session = self;
         let mut answers = Vec::new(heap);
         loop {
-            let Ok(buffer) = ready(heap, &mut answers) else {
-                return (session, Progress::CutShort(answers));
+            let buffer = match ready(heap, &mut answers) {
+                Ok(buffer) => buffer,
+                Err(error) => return Err(Stopped::InDrain(answers, error)),
             };
-            let (next, answered) = session.read(buffer);
-            session = next;
+            let answered = self.read(buffer);
             let last = is_nothing(answered.answer);
             answers.push_reserved(answered);
             if last {
-                return (session, Progress::Done(Reply::Drained(answers)));
+                return Ok(Reply::Drained(answers));
             }
         }
     }
 
     /// One step. Memory is asked for before anything is done, so that no answer is lost.
-    pub(crate) fn take_step(self, heap: Global, step: &Step) -> (Session<C, K, S>, Progress)
-        ensures { Took C.slots C.space C.made C.tied K.width K.value S.verdict step.now result.1 self result.0 }
+    pub(crate) fn take_step(&mut self, heap: Global, step: &Step) -> Result<Reply, Stopped>
+        ensures { Took C.slots C.space C.made C.tied K.width K.value S.verdict step.now result self.old self.new }
     {
         match step {
-            Step::Open { frames } => {
-                let (session, reply) = self.open(*frames);
-                (session, Progress::Done(reply))
+            Step::Open { frames } => Ok(Reply::Opening(self.open(*frames))),
+            Step::Offer { packet } => Ok(self.offer(packet.as_slice())),
+            Step::Close => Ok(self.close()),
+            Step::Read { buffer_len } => {
+                let buffer = zeros(heap, *buffer_len)?;
+                Ok(Reply::Read(self.read(buffer)))
             }
-            Step::Offer { packet } => {
-                let (session, reply) = self.offer(packet.as_slice());
-                (session, Progress::Done(reply))
-            }
-            Step::Close => {
-                let (session, reply) = self.close();
-                (session, Progress::Done(reply))
-            }
-            Step::Read { buffer_len } => match zeros(heap, *buffer_len) {
-                Ok(buffer) => {
-                    let (session, answered) = self.read(buffer);
-                    (session, Progress::Done(Reply::Read(answered)))
-                }
-                Err(_) => (self, Progress::NotBegun),
-            },
             Step::Drain => self.drain(heap),
-            Step::Room => {
-                let room = self.flow.room();
-                (self, Progress::Done(Reply::Room(room)))
-            }
-            Step::Waits => {
-                let waits = self.flow.waits();
-                (self, Progress::Done(Reply::Waits(waits)))
-            }
+            Step::Room => Ok(Reply::Room(self.flow.room())),
+            Step::Waits => Ok(Reply::Waits(self.flow.waits())),
         }
     }
 
     /// Closes the superframe that is open, if any, and gives the flow.
     #[tactic(auto, using(crate::proofs::Tokens::empties, crate::proofs::Tokens::ended))]
-    pub fn end(self) -> Flow<C, K, S>
+    pub fn end(mut self) -> Flow<C, K, S>
         ensures { Ended C.slots C.space C.made C.tied K.width K.value S.verdict self.hand self.flow result }
     {
-        let (session, _) = self.close();
-        let Session { flow, hand } = session;
+        let _ = self.close();
+        let Session { flow, hand } = self;
         match hand {
-            Hand::Empty => flow,
-            Hand::Holds(_held) => unreachable(),
+            None => flow,
+            // It never comes, but a token cannot be dropped unseen.
+            Some(_held) => unreachable!(),
         }
     }
 }

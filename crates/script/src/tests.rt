@@ -4,6 +4,7 @@ use crate::step::Step;
 use channel::channel::Channel;
 use channel::ring::Ring;
 use checksum::crc16::Crc16;
+use receiver::terms::Terms;
 use service::plain::Plain;
 use std::alloc::{AllocError, Global};
 use std::test::Fail;
@@ -12,9 +13,9 @@ use std::test::Fail;
 /// how many readings a drain took, above 100.
 fn in_short(reply: &Reply) -> usize {
     match reply {
-        Reply::Opened | Reply::Accepted | Reply::Closed => 0,
-        Reply::NotOpened(fault) => usize::from(fault.number()),
-        Reply::NotAccepted(fault) => usize::from(fault.number()),
+        Reply::Opening(Ok(())) | Reply::Offer(Ok(())) | Reply::Closed => 0,
+        Reply::Opening(Err(fault)) => usize::from(fault.number()),
+        Reply::Offer(Err(fault)) => usize::from(fault.number()),
         Reply::NoToken => 20,
         Reply::Read(answered) => match answered.answer {
             Ok(_) => answered.packet.len(),
@@ -26,6 +27,12 @@ fn in_short(reply: &Reply) -> usize {
     }
 }
 
+const TERMS: Terms<Crc16, Plain> = Terms {
+    checksum: Crc16,
+    service: Plain,
+    fasb: false,
+};
+
 /// What the steps answered, in short, and whether a slot waits once the session has ended.
 fn run_short<C: Channel + Drop>(
     heap: Global,
@@ -36,7 +43,7 @@ fn run_short<C: Channel + Drop>(
         session,
         replies,
         done,
-    } = run_steps(heap, channel, Crc16, Plain, 7, false, steps);
+    } = run_steps(heap, channel, TERMS, 7, steps);
     let waits = session.end().into_channel().waits();
     done?;
     let mut short = Vec::new(heap);

@@ -1,16 +1,18 @@
 -- Putting on a tape and taking from it, as the interface of channels has it.
-use Rattle.std.proofs.Common.{◌≡◌, ℕ, ◌+◌, ◌-◌, ◌<◌, ◌≤◌, ltb, List, [], ◌∷◌, ◌++◌, map, length, get_or, drop, Some, None, Ok, vec_items, vec_len, vec_capacity, sym, refl, ap, ◌∙◌, ⊎_elim, arith}
+use Rattle.std.proofs.Common.{◌≡◌, ℕ, ◌+◌, ◌-◌, ◌<◌, ◌≤◌, ltb, List, [], ◌∷◌, ◌++◌, map, length, get_or, drop, Some, Ok, vec_items, vec_len, vec_capacity, sym, ap, ◌∙◌, ⊎_elim, arith}
 use Rattle.std.proofs.lemmas.List.{map_push, drop-append-le, length-map, drop_all, drop_more, get_or-map}
 use Rattle.std.proofs.lemmas.Bool.{lt-ltb, le-ltb, cases_lt}
 use Rattle.framing.specs.declared.slot.Slot.{Slot}
-use Rattle.framing.specs.declared.slot.Slot.TheVariants.{Mark}
+use Rattle.channel.specs.declared.sending.Outgoing.{Outgoing}
+use Rattle.channel.specs.declared.sending.Outgoing.TheVariants.{Frame, Mark}
 use Rattle.channel.specs.Answers.{PutAnswer, TakeAnswer}
 use Rattle.channel.specs.Asking.{waiting}
-use Rattle.channel.specs.Sending.{Arrives, Put, a_frame, a_mark, Went}
+use Rattle.channel.specs.Outgoings.{as_put}
+use Rattle.channel.specs.Sending.{Arrives, Went}
 use Rattle.channel.proofs.Sends.{room_open, went_frame, went_mark}
 use Rattle.simulation.specs.declared.tape.Passage.{Passage}
 use Rattle.simulation.specs.declared.tape.Tape.{Tape}
-use Rattle.simulation.specs.Tapes.{slot_of, kept, room_on, Behind, Taped}
+use Rattle.simulation.specs.Tapes.{Becomes, slot_of, kept, room_on, Behind, Taped}
 
 -- how many slots there are on a tape, the taken ones among them
 pub many : (t : Tape) → length (map slot_of (vec_items t.passages)) ≡ vec_len t.passages
@@ -31,35 +33,28 @@ fell p old new some t =
     let same = t.2 in
     omega (arith, more, same)
 
+went :
+    (item : Outgoing) (p : Passage) (old new : Tape) → 0 < room_on old → Taped p old new → Becomes item p.slot → Behind old
+    → Went Arrives (as_put item ∷ []) (kept old) (room_on old) (kept new) (room_on new)
+went (Frame f) p old new some t becomes behind =
+    went_frame f.bytes p.slot becomes becomes (joined p old new behind t) (fell p old new some t)
+went Mark p old new some t becomes behind =
+    went_mark (joined p old new behind t ∙ ap (λ (s : Slot). kept old ++ s ∷ []) becomes) (fell p old new some t)
+
+-- what is put goes onto the tape
 pub put_on :
-    (put : Put) (p : Passage) (old new : Tape) → 0 < room_on old → Taped p old new
-    → (Behind old → Went Arrives (put ∷ []) (kept old) (room_on old) (kept new) (room_on new))
-    → PutAnswer kept room_on Arrives Behind put (Ok tt) old new
-put_on put p old new some t went =
+    (item : Outgoing) (p : Passage) (old new : Tape) → 0 < room_on old → Taped p old new → Becomes item p.slot
+    → PutAnswer kept room_on Arrives Behind (as_put item) (Ok tt) old new
+put_on item p old new some t becomes =
     let more = t.1 in
     let same = t.3 in
     record {
       asked = sym (room_open (room_on old) some);
       same = tt;
       counts = fell p old new some t;
-      joins = went;
+      joins = went item p old new some t becomes;
       keeps = λ (behind : Behind old). omega (arith, more, same, behind);
     }
-
-pub frame_on :
-    (f : List ℕ) (p : Passage) (old new : Tape) → 0 < room_on old → Taped p old new → Arrives f p.slot
-    → PutAnswer kept room_on Arrives Behind (a_frame f) (Ok tt) old new
-frame_on f p old new some t arrives =
-    put_on (a_frame f) p old new some t
-    (λ (behind : Behind old). went_frame f p.slot arrives arrives (joined p old new behind t) (fell p old new some t))
-
-pub mark_on :
-    (p : Passage) (old new : Tape) → 0 < room_on old → Taped p old new → p.slot ≡ Mark
-    → PutAnswer kept room_on Arrives Behind a_mark (Ok tt) old new
-mark_on p old new some t is =
-    put_on a_mark p old new some t
-    (λ (behind : Behind old).
-    went_mark (joined p old new behind t ∙ ap (λ (s : Slot). kept old ++ s ∷ []) is) (fell p old new some t))
 
 pub empty : (t : Tape) → vec_len t.passages ≤ t.taken → kept t ≡ []
 empty t le = let size = many t in drop_all t.taken (map slot_of (vec_items t.passages)) (omega (arith, size))
@@ -76,10 +71,6 @@ first t d lt =
     let cut : t.taken < length xs = omega (arith, long) in
     drop_more all t.taken (slot_of d) within
     ∙ ap (λ (s : Slot). s ∷ drop (t.taken + 1) all) (get_or-map slot_of xs t.taken d (slot_of d) cut)
-
--- nothing waits, and nothing is taken
-pub took_none : (t : Tape) → vec_len t.passages ≤ t.taken → TakeAnswer kept room_on Behind None t t
-took_none t le = record { first = (empty t le, refl); frees = omega arith; keeps = λ (b : Behind t). b }
 
 -- the first slot is taken
 pub took_first :

@@ -1,8 +1,21 @@
 -- The meaning of a tape as a channel. What was put stays on it; taking only moves on.
-use Rattle.std.specs.Prelude.{◌≡◌, ℕ, ◌+◌, ◌-◌, ◌≤◌, List, [], ◌∷◌, ◌++◌, map, drop, vec_items, vec_len, vec_capacity}
+use Rattle.std.specs.Prelude.{◌≡◌, ℕ, ◌+◌, ◌-◌, ◌≤◌, List, [], ◌∷◌, ◌++◌, length, map, drop, vec_items, vec_len, vec_capacity}
+use Rattle.framing.specs.declared.frame.Frame as framing
 use Rattle.framing.specs.declared.slot.Slot.{Slot}
+use Rattle.channel.specs.declared.sending.Outgoing.{Outgoing}
+use Rattle.channel.specs.declared.sending.Outgoing.TheVariants.{Frame, Mark}
+use Rattle.channel.specs.Sending.{Arrives}
 use Rattle.simulation.specs.declared.tape.Passage.{Passage}
 use Rattle.simulation.specs.declared.tape.Tape.{Tape}
+
+-- a frame that was changed is as long as it was
+abbrev pub AsLong : (old new : framing.Frame) → Type 0
+AsLong old new = length new.bytes ≡ length old.bytes
+
+-- what may become of what is put: a mark stays one
+abbrev pub Becomes : Outgoing → Slot → Type 0
+Becomes (Frame f) s = Arrives f.bytes s
+Becomes Mark s = s ≡ Slot.Mark
 
 abbrev pub slot_of : Passage → Slot
 slot_of p = p.slot

@@ -17,33 +17,33 @@ mod tape;
 mod trial;
 
 use anyhow::anyhow;
-use report::show;
 use std::env;
-use trial::{Findings, try_script};
+use trial::Findings;
 
 /// How many scripts are run where no number is given.
 const SCRIPTS: u64 = 10_000;
 
 /// The number of scripts to run: the first argument, if there is one.
 fn wanted(rt: &HostRuntime) -> anyhow::Result<u64> {
-    for word in env::args(rt)?.skip(1) {
-        return Ok(word.as_str().parse::<u64>()?);
+    match env::args(rt)?.nth(1) {
+        Some(word) => Ok(word.as_str().parse::<u64>()?),
+        None => Ok(SCRIPTS),
     }
-    Ok(SCRIPTS)
 }
 
 fn simulate(rt: &HostRuntime) -> anyhow::Result<()> {
-    let mut all = Findings::NONE;
+    let mut all = Findings::default();
     let scripts = wanted(rt)?;
     for seed in 0..scripts {
-        let found = try_script(rt.alloc(), seed)?;
-        if found.broken.total() > 0 {
+        let before = all.broken;
+        all.try_script(rt.alloc(), seed)?;
+        if all.broken != before {
             println!(rt; "the law is broken in script {seed}")?;
         }
-        all = all.with(&found);
     }
-    show(rt, scripts, &all)?;
-    if all.broken.total() > 0 {
+    println!(rt; "{scripts} scripts")?;
+    print!(rt; "{all}")?;
+    if all.broken.any() {
         return Err(anyhow!("the law is broken"));
     }
     Ok(())

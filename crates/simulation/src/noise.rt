@@ -1,7 +1,9 @@
-ghost use Rattle.std.specs.Prelude.{◌≡◌, ◌<◌, ◌≤◌, length};
+ghost use Rattle.std.specs.Prelude.{◌<◌};
 ghost use Rattle.channel.specs.Sending.{Arrives};
+ghost use Rattle.simulation.specs.Tapes.{AsLong, Becomes};
 
 use crate::random::Random;
+use channel::sending::Outgoing;
 use framing::fragments::{Fragment, Fragments};
 use framing::frame::Frame;
 use framing::slot::Slot;
@@ -26,10 +28,8 @@ fn in_bodies(frame: &Frame) -> [bool; 122] {
     };
     for fragment in fragments {
         if let Fragment::Body { at, body, .. } = fragment {
-            for (i, mark) in marks.iter_mut().enumerate() {
-                if at <= i && i - at < body.len() {
-                    *mark = true;
-                }
+            if let Some(part) = marks.get_mut(at..at.saturating_add(body.len())) {
+                part.fill(true);
             }
         }
     }
@@ -38,13 +38,14 @@ fn in_bodies(frame: &Frame) -> [bool; 122] {
 
 /// The frame with these bits changed from the index `at` on, but for those outside fragment bodies.
 fn struck(frame: &Frame, at: usize, bits: [u8; 3]) -> Frame
-    ensures { length result.bytes ≡ length frame.now.bytes }
+    ensures { AsLong frame.now result }
 {
     let marks = in_bodies(frame);
     let mut bytes = frame.bytes;
-    for (i, byte) in bytes.iter_mut().enumerate() {
-        if marks[i] && at <= i && i - at < 3 {
-            *byte ^= bits[i - at];
+    let body_bytes = bytes.iter_mut().zip(marks.iter());
+    for ((byte, mark), bits) in body_bytes.skip(at).zip(bits.iter()) {
+        if *mark {
+            *byte ^= *bits;
         }
     }
     Frame { bytes }
@@ -63,7 +64,7 @@ fn burst(random: &mut Random) -> [u8; 3] {
 impl Noise {
     /// The frame struck by one burst, at a place of which the end of the frame is not the rarest.
     fn strike(&mut self, frame: &Frame) -> Frame
-        ensures { length result.bytes ≡ length frame.now.bytes }
+        ensures { AsLong frame.now result }
     {
         let near_end = self.random.happens(64);
         let at = if near_end {
@@ -83,7 +84,7 @@ impl Noise {
 
     /// The frame struck by one burst, and sometimes by another.
     fn changed(&mut self, frame: &Frame) -> Frame
-        ensures { length result.bytes ≡ length frame.now.bytes }
+        ensures { AsLong frame.now result }
     {
         let once = self.strike(frame);
         if self.random.happens(64) {
@@ -93,8 +94,18 @@ impl Noise {
         }
     }
 
+    /// What comes of what is put: a mark stays one.
+    pub(crate) fn pass(&mut self, item: &Outgoing) -> Slot
+        ensures { Becomes item.now result }
+    {
+        match item {
+            Outgoing::Frame(frame) => self.carry(frame),
+            Outgoing::Mark => Slot::Mark,
+        }
+    }
+
     /// What comes of a frame: a gap, or the frame with none or some bits of its bodies changed.
-    pub(crate) fn carry(&mut self, frame: &Frame) -> Slot
+    fn carry(&mut self, frame: &Frame) -> Slot
         ensures { Arrives frame.now.bytes result }
     {
         let goes_on = self.goes_on;

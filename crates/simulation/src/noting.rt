@@ -4,33 +4,34 @@ use script::reply::{Answered, Reply};
 use script::step::Step;
 use std::alloc::{AllocError, Global};
 
+/// What the law hears of a reading, with the packet that it may have handed out.
+fn heard(reading: Reading, packet: &Vec<u8>) -> Result<Heard, AllocError> {
+    let verdict = match reading {
+        Reading::Sound { .. } => Verdict::Sound,
+        Reading::Damaged { .. } => Verdict::Damaged,
+        Reading::Foreign { .. } => Verdict::Foreign,
+        Reading::Lost { .. } => return Ok(Heard::Lost),
+        Reading::Torn { .. } => return Ok(Heard::Torn),
+        Reading::Short => return Ok(Heard::Short),
+        Reading::Mark { .. } => return Ok(Heard::Mark),
+        Reading::Nothing => return Ok(Heard::Nothing),
+    };
+    let packet = packet.clone()?;
+    Ok(Heard::HandedOut { verdict, packet })
+}
+
 impl Run {
     /// Notes what a reading answered when so much had been put. A refused one is none.
     fn hear(&mut self, answered: &Answered, put: usize) -> Result<(), AllocError> {
-        let verdict = match answered.answer {
-            Ok(Reading::Sound { .. }) => Some(Verdict::Sound),
-            Ok(Reading::Damaged { .. }) => Some(Verdict::Damaged),
-            Ok(Reading::Foreign { .. }) => Some(Verdict::Foreign),
-            _ => None,
-        };
-        let heard = match (verdict, answered.answer) {
-            (Some(verdict), _) => Heard::HandedOut {
-                verdict,
-                packet: answered.packet.clone()?,
-            },
-            (None, Ok(Reading::Lost { .. })) => Heard::Lost,
-            (None, Ok(Reading::Torn { .. })) => Heard::Torn,
-            (None, Ok(Reading::Short)) => Heard::Short,
-            (None, Ok(Reading::Mark { .. })) => Heard::Mark,
-            (None, Ok(_)) => Heard::Nothing,
-            (None, Err(_)) => return Ok(()),
-        };
-        let accepted = self.accepted.len();
-        self.notes.push(Note {
-            accepted,
-            put,
-            heard,
-        })?;
+        if let Ok(reading) = answered.answer {
+            let accepted = self.accepted.len();
+            let heard = heard(reading, &answered.packet)?;
+            self.notes.push(Note {
+                accepted,
+                put,
+                heard,
+            })?;
+        }
         Ok(())
     }
 }
@@ -49,11 +50,11 @@ pub(crate) fn run_of(
     let mut put = 0usize;
     for (step, reply) in steps.iter().zip(replies.iter()) {
         match (step, reply) {
-            (Step::Offer { packet }, Reply::Accepted) => run.accepted.push(packet.clone()?)?,
+            (Step::Offer { packet }, Reply::Offer(Ok(()))) => run.accepted.push(packet.clone()?)?,
             (_, Reply::Room(left)) => put = room.saturating_sub(*left),
             (_, Reply::Read(answered)) => run.hear(answered, put)?,
             (_, Reply::Drained(all)) => {
-                for answered in all.as_slice() {
+                for answered in all.iter() {
                     run.hear(answered, put)?;
                 }
             }

@@ -1,8 +1,10 @@
+use crate::carried::{Carriage, Change};
 use crate::run::{Heard, Note, Run, Verdict};
 use std::alloc::{AllocError, Global};
+use std::fmt;
 
 /// A wrong program, by the mistake that a caller sees. The law has to be broken wherever it is made.
-#[derive(Clone, Copy)]
+#[derive(Clone, Copy, PartialEq, Eq, Debug)]
 pub(crate) enum Mistake {
     /// A packet is not handed out.
     Swallows,
@@ -16,69 +18,99 @@ pub(crate) enum Mistake {
     CallsSound,
 }
 
+impl fmt::Display for Mistake {
+    fn fmt<W: fmt::Write>(&self, f: &mut fmt::Formatter<W>) -> fmt::Result {
+        f.write_str(match self {
+            Mistake::Swallows => "a packet is swallowed",
+            Mistake::Conceals => "a gap is concealed",
+            Mistake::Garbles => "a packet is garbled",
+            Mistake::CallsDamaged => "all is called damaged",
+            Mistake::CallsSound => "all is called sound",
+        })
+    }
+}
+
 fn garbled(mut packet: Vec<u8>) -> Vec<u8> {
-    if !packet.is_empty() {
-        packet[0] ^= 1;
+    if let Some(first) = packet.first_mut() {
+        *first ^= 1;
     }
     packet
 }
 
-/// What the caller hears from the wrong program, and whether that is another thing.
-fn misheard(mistake: Mistake, heard: Heard) -> (Option<Heard>, bool) {
-    match heard {
-        Heard::HandedOut { verdict, packet } => {
-            let (verdict, packet) = match mistake {
-                Mistake::Swallows => return (None, true),
-                Mistake::Conceals => return (Some(Heard::HandedOut { verdict, packet }), false),
-                Mistake::Garbles => (verdict, garbled(packet)),
-                Mistake::CallsDamaged => (Verdict::Damaged, packet),
-                Mistake::CallsSound => (Verdict::Sound, packet),
-            };
-            (Some(Heard::HandedOut { verdict, packet }), true)
-        }
-        Heard::Lost => match mistake {
-            Mistake::Conceals => (None, true),
-            _ => (Some(Heard::Lost), false),
-        },
-        other => (Some(other), false),
-    }
-}
-
 impl Mistake {
+    pub(crate) const ALL: [Mistake; 5] = [
+        Mistake::Swallows,
+        Mistake::Conceals,
+        Mistake::Garbles,
+        Mistake::CallsDamaged,
+        Mistake::CallsSound,
+    ];
+
+    /// Whether the law forbids it in this run. A packet may be called damaged that was changed, and sound where it was changed
+    /// beyond the reach.
+    pub(crate) fn is_forbidden(self, carriage: &Carriage) -> bool {
+        match self {
+            Mistake::Swallows | Mistake::Conceals | Mistake::Garbles => true,
+            Mistake::CallsDamaged => carriage.has(Change::Unchanged),
+            Mistake::CallsSound => carriage.has(Change::WithinReach),
+        }
+    }
+
+    /// Whether it can be made of this answer.
+    fn concerns(self, heard: &Heard) -> bool {
+        match heard {
+            Heard::HandedOut { .. } => self != Mistake::Conceals,
+            Heard::Lost => self == Mistake::Conceals,
+            _ => false,
+        }
+    }
+
+    /// What the caller hears in place of an answer that it is made of, if anything.
+    fn misheard(self, heard: Heard) -> Option<Heard> {
+        let Heard::HandedOut { verdict, packet } = heard else {
+            return None;
+        };
+        let (verdict, packet) = match self {
+            Mistake::Swallows | Mistake::Conceals => return None,
+            Mistake::Garbles => (verdict, garbled(packet)),
+            Mistake::CallsDamaged => (Verdict::Damaged, packet),
+            Mistake::CallsSound => (Verdict::Sound, packet),
+        };
+        Some(Heard::HandedOut { verdict, packet })
+    }
+
     /// The verdicts are changed wherever packets are handed out; the other mistakes are made once.
     fn is_made_always(self) -> bool {
         matches!(self, Mistake::CallsDamaged | Mistake::CallsSound)
     }
 
-    /// The run as the wrong program has it, and whether the mistake was made at all.
-    pub(crate) fn make(self, heap: Global, run: Run) -> Result<(Run, bool), AllocError> {
+    /// The run as the wrong program has it; none where it has no answer to make the mistake of.
+    pub(crate) fn make(self, heap: Global, run: Run) -> Result<Option<Run>, AllocError> {
         let Run { accepted, notes } = run;
         let mut wrong = Vec::new(heap);
         let mut made = false;
         for note in notes {
-            let Note {
-                accepted,
-                put,
-                heard,
-            } = note;
-            let (heard, differs) = if made && !self.is_made_always() {
-                (Some(heard), false)
-            } else {
-                misheard(self, heard)
-            };
-            made = made || differs;
-            if let Some(heard) = heard {
-                wrong.push(Note {
+            if self.concerns(&note.heard) && (self.is_made_always() || !made) {
+                made = true;
+                let Note {
                     accepted,
                     put,
                     heard,
-                })?;
+                } = note;
+                if let Some(heard) = self.misheard(heard) {
+                    wrong.push(Note {
+                        accepted,
+                        put,
+                        heard,
+                    })?;
+                }
+            } else {
+                wrong.push(note)?;
             }
         }
-        let run = Run {
+        Ok(made.then_some(Run {
             accepted,
             notes: wrong,
-        };
-        Ok((run, made))
+        }))
     }
 }

@@ -1,6 +1,7 @@
 ghost use Rattle.std.specs.Prelude.{◌<◌};
 
-/// A small generator of random numbers (xorshift): the same seed gives the same numbers.
+/// A small generator of random numbers (xorshift): the same seed gives the same numbers. It stands here, and is not taken from a
+/// library, since what the program prints is compared with stored numbers.
 #[derive(Clone, Copy)]
 pub(crate) struct Random {
     state: u64,
@@ -34,7 +35,7 @@ impl Random {
 
     /// Yes in so many of 256 cases.
     pub(crate) fn happens(&mut self, of_256: u8) -> bool {
-        self.below(256) < of_256 as usize
+        self.below(256) < usize::from(of_256)
     }
 
     pub(crate) fn byte(&mut self) -> u8 {

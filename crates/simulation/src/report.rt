@@ -1,22 +1,28 @@
 use crate::counts::{Counts, Planted};
 use crate::law::Broken;
 use crate::trial::Findings;
-use std::io;
+use std::fmt;
 
-fn show_calls(rt: &HostRuntime, counts: &Counts) -> io::Result<()> {
-    let calls = counts.calls;
-    let no_token = counts.no_token;
-    println!(rt;
+/// The calls, and those of them that were refused.
+fn write_calls<W: fmt::Write>(f: &mut fmt::Formatter<W>, counts: &Counts) -> fmt::Result {
+    let Counts {
+        calls,
+        refused,
+        no_token,
+        ..
+    } = counts;
+    writeln!(
+        f,
         "{calls} calls; besides, {no_token} offers and closings were not made for want of a token"
     )?;
-    for (i, n) in counts.refused.iter().enumerate() {
-        let number = i.saturating_add(1);
-        println!(rt; "  refused by question {number}: {n}")?;
+    for (number, n) in (1..9).zip(refused.iter()) {
+        writeln!(f, "  refused by question {number}: {n}")?;
     }
     Ok(())
 }
 
-fn show_packets(rt: &HostRuntime, counts: &Counts) -> io::Result<()> {
+/// The packets, and what they were handed out as.
+fn write_packets<W: fmt::Write>(f: &mut fmt::Formatter<W>, counts: &Counts) -> fmt::Result {
     let Counts {
         offered,
         accepted,
@@ -26,62 +32,82 @@ fn show_packets(rt: &HostRuntime, counts: &Counts) -> io::Result<()> {
         damaged,
         foreign,
         ..
-    } = *counts;
-    println!(rt;
+    } = counts;
+    writeln!(
+        f,
         "{offered} packets offered, {accepted} accepted, {put} put to their end, {clear} clear"
     )?;
-    println!(rt; "  handed out: {sound} sound, {damaged} damaged, {foreign} foreign")?;
+    writeln!(
+        f,
+        "  handed out: {sound} sound, {damaged} damaged, {foreign} foreign"
+    )
+}
+
+/// What came of the clear packets, and of all that was put, on the way.
+fn write_passing<W: fmt::Write>(f: &mut fmt::Formatter<W>, counts: &Counts) -> fmt::Result {
     let Counts {
         unchanged,
         changed,
         within_reach,
-        ..
-    } = *counts;
-    println!(rt;
-        "  clear packets: {unchanged} unchanged, {changed} changed, of these {within_reach} within the checksum's reach"
-    )?;
-    let Counts {
         passages,
         gaps,
         lost,
         ..
-    } = *counts;
-    println!(rt; "{passages} frames and marks put, {gaps} gaps, {lost} lost answers")
+    } = counts;
+    writeln!(
+        f,
+        "  clear packets: {unchanged} unchanged, {changed} changed, of these {within_reach} within the checksum's reach"
+    )?;
+    writeln!(
+        f,
+        "{passages} frames and marks put, {gaps} gaps, {lost} lost answers"
+    )
 }
 
-fn show_broken(rt: &HostRuntime, broken: &Broken) -> io::Result<()> {
-    let Broken {
-        carried,
-        order,
-        complete,
-        judged,
-        alarm,
-        unfair,
-    } = *broken;
-    println!(rt; "violations of the run law:")?;
-    println!(rt; "  packets are carried: {carried}")?;
-    println!(rt; "  in order: {order}")?;
-    println!(rt; "  complete: {complete}")?;
-    println!(rt; "  judged rightly: {judged}")?;
-    println!(rt; "  no false alarm: {alarm}")?;
-    println!(rt; "  (runs that were not fair: {unfair})")
+impl fmt::Display for Counts {
+    fn fmt<W: fmt::Write>(&self, f: &mut fmt::Formatter<W>) -> fmt::Result {
+        write_calls(f, self)?;
+        write_packets(f, self)?;
+        write_passing(f, self)
+    }
 }
 
-fn show_planted(rt: &HostRuntime, mistake: &str, planted: Planted) -> io::Result<()> {
-    let Planted { made, found } = planted;
-    println!(rt; "  {mistake}: {made} planted, {found} found")
+impl fmt::Display for Broken {
+    fn fmt<W: fmt::Write>(&self, f: &mut fmt::Formatter<W>) -> fmt::Result {
+        let Broken {
+            carried,
+            order,
+            complete,
+            judged,
+            alarm,
+            unfair,
+        } = self;
+        writeln!(f, "violations of the run law:")?;
+        writeln!(f, "  packets are carried: {carried}")?;
+        writeln!(f, "  in order: {order}")?;
+        writeln!(f, "  complete: {complete}")?;
+        writeln!(f, "  judged rightly: {judged}")?;
+        writeln!(f, "  no false alarm: {alarm}")?;
+        writeln!(f, "  (runs that were not fair: {unfair})")
+    }
 }
 
-/// Prints all that was found.
-pub(crate) fn show(rt: &HostRuntime, scripts: u64, all: &Findings) -> io::Result<()> {
-    println!(rt; "{scripts} scripts")?;
-    show_calls(rt, &all.counts)?;
-    show_packets(rt, &all.counts)?;
-    show_broken(rt, &all.broken)?;
-    println!(rt; "mistakes planted in what the callers saw:")?;
-    show_planted(rt, "a packet is swallowed", all.swallows)?;
-    show_planted(rt, "a gap is concealed", all.conceals)?;
-    show_planted(rt, "a packet is garbled", all.garbles)?;
-    show_planted(rt, "all is called damaged", all.calls_damaged)?;
-    show_planted(rt, "all is called sound", all.calls_sound)
+impl fmt::Display for Findings {
+    fn fmt<W: fmt::Write>(&self, f: &mut fmt::Formatter<W>) -> fmt::Result {
+        let Findings {
+            counts,
+            broken,
+            planted,
+        } = self;
+        write!(f, "{counts}{broken}")?;
+        writeln!(f, "mistakes planted in what the callers saw:")?;
+        for Planted {
+            mistake,
+            made,
+            found,
+        } in planted.iter() {
+            writeln!(f, "  {mistake}: {made} planted, {found} found")?;
+        }
+        Ok(())
+    }
 }

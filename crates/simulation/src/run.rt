@@ -1,5 +1,10 @@
-/// What a packet was handed out as.
-#[derive(Clone, Copy, PartialEq)]
+use checksum::choice::ChecksumChoice;
+use receiver::terms::Terms;
+use service::choice::ServiceChoice;
+
+/// What a packet was handed out as. (`report` has a verdict too, with the service's number in it, which the law doesn't speak of; and
+/// nothing else of that crate has a place here.)
+#[derive(Clone, Copy, PartialEq, Eq, Debug)]
 pub(crate) enum Verdict {
     Sound,
     Damaged,
@@ -32,23 +37,23 @@ pub(crate) struct Run {
     pub(crate) notes: Vec<Note>,
 }
 
-/// What the law depends on besides the run.
-#[derive(Clone, Copy)]
-pub(crate) struct Terms {
-    /// Whether packets may cross superframes.
-    pub(crate) fasb: bool,
-    /// Whether each packet has CRC-16 behind it, or nothing.
-    pub(crate) crc: bool,
+/// The terms on which a script is run.
+pub(crate) type Agreed = Terms<ChecksumChoice, ServiceChoice>;
+
+// The two numbers stand here again, and are not asked of the checksums, so that their code is compared with another hand's.
+
+/// The bytes of a checksum.
+pub(crate) fn width_of(checksum: ChecksumChoice) -> usize {
+    match checksum {
+        ChecksumChoice::Without => 0,
+        ChecksumChoice::Crc16 => 2,
+    }
 }
 
-impl Terms {
-    /// The bytes of a checksum.
-    pub(crate) fn width(self) -> usize {
-        if self.crc { 2 } else { 0 }
-    }
-
-    /// The bits of a stretch within which every change is detected.
-    pub(crate) fn reach(self) -> usize {
-        if self.crc { 16 } else { 0 }
+/// The bits of a stretch within which a checksum detects every change.
+pub(crate) fn reach_of(checksum: ChecksumChoice) -> usize {
+    match checksum {
+        ChecksumChoice::Without => 0,
+        ChecksumChoice::Crc16 => 16,
     }
 }

@@ -1,5 +1,6 @@
 use crate::random::Random;
 use script::step::Step;
+use service::choice::ServiceChoice;
 use std::alloc::{AllocError, Global};
 
 /// A length of which the edges are not the rarest.
@@ -23,23 +24,6 @@ fn header(random: &mut Random) -> [u8; 2] {
     }
 }
 
-/// A packet of random bytes. With `sync` it mostly begins with a sync header.
-fn packet(heap: Global, random: &mut Random, sync: bool) -> Result<Vec<u8>, AllocError> {
-    let len = length(random);
-    let front = header(random);
-    let lawful = sync && random.happens(220);
-    let mut bytes = Vec::new(heap);
-    for i in 0..len {
-        let byte = match i {
-            0 if lawful => front[0],
-            1 if lawful => front[1],
-            _ => random.byte(),
-        };
-        bytes.push(byte)?;
-    }
-    Ok(bytes)
-}
-
 /// How many frames to open, now and then too few or too many.
 fn frames(random: &mut Random) -> usize {
     match random.below(20) {
@@ -60,30 +44,50 @@ fn buffer_len(random: &mut Random) -> usize {
     }
 }
 
-/// One step at random. Where the script believes that no superframe is open, it mostly opens one.
-fn step(
+/// Who makes up a script: the numbers at random that it is made of, and the service that its packets are for.
+#[derive(Drop)]
+struct Author<'a> {
     heap: Global,
-    random: &mut Random,
-    sync: bool,
-    believes_open: bool,
-) -> Result<Step, AllocError> {
-    let opens = if believes_open { 10 } else { 150 };
-    if random.happens(opens) {
-        return Ok(Step::Open {
-            frames: frames(random),
-        });
+    random: &'a mut Random,
+    service: ServiceChoice,
+}
+
+impl Author<'_> {
+    /// A packet of random bytes. For the sync service it mostly begins with a sync header.
+    fn packet(&mut self) -> Result<Vec<u8>, AllocError> {
+        let len = length(self.random);
+        let front = header(self.random);
+        let lawful = self.service == ServiceChoice::Sync && self.random.happens(220);
+        let mut bytes = Vec::new(self.heap);
+        if lawful {
+            bytes.extend_from_slice(&front[..len.min(2)])?;
+        }
+        for _ in bytes.len()..len {
+            bytes.push(self.random.byte())?;
+        }
+        Ok(bytes)
     }
-    Ok(match random.below(16) {
-        0 | 1 => Step::Close,
-        2 | 3 => Step::Read {
-            buffer_len: buffer_len(random),
-        },
-        4 => Step::Drain,
-        5 => Step::Waits,
-        _ => Step::Offer {
-            packet: packet(heap, random, sync)?,
-        },
-    })
+
+    /// One step. Where the script believes that no superframe is open, it mostly opens one.
+    fn step(&mut self, believes_open: bool) -> Result<Step, AllocError> {
+        let opens = if believes_open { 10 } else { 150 };
+        if self.random.happens(opens) {
+            return Ok(Step::Open {
+                frames: frames(self.random),
+            });
+        }
+        Ok(match self.random.below(16) {
+            0 | 1 => Step::Close,
+            2 | 3 => Step::Read {
+                buffer_len: buffer_len(self.random),
+            },
+            4 => Step::Drain,
+            5 => Step::Waits,
+            _ => Step::Offer {
+                packet: self.packet()?,
+            },
+        })
+    }
 }
 
 /// A random script. It asks for the room before each reading, so that the moment of each answer is known, and ends with a
@@ -91,12 +95,18 @@ fn step(
 pub(crate) fn random_script(
     heap: Global,
     random: &mut Random,
-    sync: bool,
+    service: ServiceChoice,
 ) -> Result<Vec<Step>, AllocError> {
     let mut steps = Vec::new(heap);
     let mut believes_open = false;
-    for _ in 0..4 + random.below(50) {
-        let next = step(heap, random, sync, believes_open)?;
+    let count = 4 + random.below(50);
+    let mut author = Author {
+        heap,
+        random,
+        service,
+    };
+    for _ in 0..count {
+        let next = author.step(believes_open)?;
         match &next {
             Step::Open { .. } => believes_open = true,
             Step::Close => believes_open = false,

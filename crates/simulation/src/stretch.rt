@@ -1,22 +1,16 @@
 /// The length of the shortest stretch of bits that all changes lie in, from bit 8 to bit 1 of each byte: 0 where nothing is
 /// changed.
 pub(crate) fn changed_bits(cut: &[u8], came: &[u8]) -> usize {
-    let mut first = None;
-    let mut behind = 0usize;
-    let mut place = 0usize;
-    for (a, b) in cut.iter().zip(came.iter()) {
-        for bit in 0..8u32 {
-            if (a ^ b) >> (7 - bit) & 1 == 1 {
-                if first.is_none() {
-                    first = Some(place);
-                }
-                behind = place.saturating_add(1);
-            }
-            place = place.saturating_add(1);
+    let mut stretch: Option<(usize, usize)> = None;
+    for (i, (a, b)) in cut.iter().zip(came.iter()).enumerate() {
+        let changes = a ^ b;
+        if changes != 0 {
+            let before = i.saturating_mul(8);
+            let begins = before.saturating_add(changes.leading_zeros() as usize);
+            let ends = before.saturating_add(8 - changes.trailing_zeros() as usize);
+            let first = stretch.map_or(begins, |(first, _)| first);
+            stretch = Some((first, ends));
         }
     }
-    match first {
-        None => 0,
-        Some(first) => behind.saturating_sub(first),
-    }
+    stretch.map_or(0, |(first, behind)| behind.saturating_sub(first))
 }

@@ -1,11 +1,10 @@
-ghost use Rattle.std.specs.Prelude.{◌≡◌, ◌+◌, ◌<◌, ◌≤◌, [], IfOk, vec_len, slice_index_or};
+ghost use Rattle.std.specs.Prelude.{◌≡◌, ◌<◌, ◌≤◌, [], IfOk};
 ghost use Rattle.channel.specs.Sending.{Arrives};
 ghost use Rattle.simulation.specs.Tapes.{kept, room_on, Behind, Taped};
 
 use crate::noise::Noise;
 use channel::channel::{Channel, Full};
 use channel::sending::Outgoing;
-use framing::frame::Frame;
 use framing::slot::Slot;
 use std::alloc::{AllocError, Global};
 
@@ -65,19 +64,6 @@ impl Tape {
     {
         self.passages.push_reserved(passage);
     }
-
-    /// Moves on past the first passage that was not taken.
-    fn advance(&mut self) -> Passage
-        requires { self.old.taken < vec_len self.old.passages }
-        ensures value { result ≡ slice_index_or self.old.passages.items self.old.taken result }
-        ensures moves { self.new.taken ≡ self.old.taken + 1 }
-        ensures same { self.new.passages ≡ self.old.passages }
-    {
-        let at = self.taken;
-        let passage = self.passages[at];
-        self.taken = at + 1;
-        passage
-    }
 }
 
 impl Channel for Tape {
@@ -97,34 +83,18 @@ impl Channel for Tape {
         self.taken < self.passages.len()
     }
 
-    fn put_frame(&mut self, frame: &Frame) -> Result<(), Full> {
+    fn put(&mut self, item: &Outgoing) -> Result<(), Full> {
         if self.free() == 0 {
             return Err(Full);
         }
-        let slot = self.noise.carry(frame);
-        self.fill(Passage {
-            put: Outgoing::Frame(*frame),
-            slot,
-        });
-        Ok(())
-    }
-
-    fn put_mark(&mut self) -> Result<(), Full> {
-        if self.free() == 0 {
-            return Err(Full);
-        }
-        self.fill(Passage {
-            put: Outgoing::Mark,
-            slot: Slot::Mark,
-        });
+        let slot = self.noise.pass(item);
+        self.fill(Passage { put: *item, slot });
         Ok(())
     }
 
     fn take(&mut self) -> Option<Slot> {
-        if self.taken >= self.passages.len() {
-            return None;
-        }
-        let passage = self.advance();
+        let passage = self.passages.get(self.taken)?;
+        self.taken += 1;
         Some(passage.slot)
     }
 }

@@ -1,23 +1,23 @@
-use crate::carried::{Carriage, packets_in};
+use crate::carried::Carriage;
 use crate::counts::{Counts, Planted};
 use crate::law::{Broken, check_law};
 use crate::noise::Noise;
 use crate::noting::run_of;
 use crate::planting::Mistake;
 use crate::random::Random;
-use crate::run::{Run, Terms};
+use crate::run::{Agreed, Run};
 use crate::scripts::random_script;
 use crate::tape::{Passage, Tape};
 use channel::channel::Channel;
 use checksum::checksum::Checksum;
+use checksum::choice::ChecksumChoice;
 use checksum::crc16::Crc16;
 use checksum::none::NoChecksum;
+use receiver::terms::Terms;
 use script::reply::Reply;
 use script::running::{Outcome, run_steps};
 use script::step::Step;
-use service::plain::Plain;
-use service::service::Service;
-use service::sync::Sync;
+use service::choice::ServiceChoice;
 use std::alloc::{AllocError, Global};
 
 /// What the trials of one or more scripts came to.
@@ -25,11 +25,8 @@ use std::alloc::{AllocError, Global};
 pub(crate) struct Findings {
     pub(crate) counts: Counts,
     pub(crate) broken: Broken,
-    pub(crate) swallows: Planted,
-    pub(crate) conceals: Planted,
-    pub(crate) garbles: Planted,
-    pub(crate) calls_damaged: Planted,
-    pub(crate) calls_sound: Planted,
+    /// What came of each mistake.
+    pub(crate) planted: [Planted; 5],
 }
 
 /// A script that was run: its replies, what was put with what came of it, and the room that there was for that.
@@ -40,21 +37,25 @@ struct Played {
     room: usize,
 }
 
-/// Runs the steps on a new flow over this tape.
-fn play<K: Checksum + Drop, S: Service + Drop>(
+/// Runs the steps on a new flow over this tape, with this checksum and the rest of the terms.
+fn play<K: Checksum + Drop>(
     heap: Global,
     tape: Tape,
     checksum: K,
-    service: S,
-    fasb: bool,
+    agreed: Agreed,
     steps: &[Step],
 ) -> Result<Played, AllocError> {
+    let terms = Terms {
+        checksum,
+        service: agreed.service,
+        fasb: agreed.fasb,
+    };
     let room = tape.room();
     let Outcome {
         session,
         replies,
         done,
-    } = run_steps(heap, tape, checksum, service, 1, fasb, steps);
+    } = run_steps(heap, tape, terms, 1, steps);
     let passages = session.end().into_channel().into_passages();
     done?;
     Ok(Played {
@@ -67,8 +68,7 @@ fn play<K: Checksum + Drop, S: Service + Drop>(
 /// What one script is run with.
 #[derive(Clone, Copy)]
 struct Setting {
-    terms: Terms,
-    sync: bool,
+    terms: Agreed,
     noise: Noise,
 }
 
@@ -76,12 +76,23 @@ impl Setting {
     fn random(random: &mut Random) -> Setting {
         let quiet = random.happens(40);
         let lossless = random.happens(40);
+        let fasb = random.happens(128);
+        let checksum = if random.happens(160) {
+            ChecksumChoice::Crc16
+        } else {
+            ChecksumChoice::Without
+        };
+        let service = if random.happens(100) {
+            ServiceChoice::Sync
+        } else {
+            ServiceChoice::Plain
+        };
         Setting {
             terms: Terms {
-                fasb: random.happens(128),
-                crc: random.happens(160),
+                checksum,
+                service,
+                fasb,
             },
-            sync: random.happens(100),
             noise: Noise {
                 random: Random::new(random.next()),
                 losses: if lossless { 0 } else { random.byte() / 3 },
@@ -91,15 +102,12 @@ impl Setting {
         }
     }
 
+    /// Plays the steps. Which checksum it is belongs to the type of the flow, so that there is one call for each.
     fn play(self, heap: Global, room: usize, steps: &[Step]) -> Result<Played, AllocError> {
-        let Setting { terms, sync, noise } = self;
-        let Terms { fasb, crc } = terms;
-        let tape = Tape::new(heap, room, noise)?;
-        match (crc, sync) {
-            (true, true) => play(heap, tape, Crc16, Sync, fasb, steps),
-            (true, false) => play(heap, tape, Crc16, Plain, fasb, steps),
-            (false, true) => play(heap, tape, NoChecksum, Sync, fasb, steps),
-            (false, false) => play(heap, tape, NoChecksum, Plain, fasb, steps),
+        let tape = Tape::new(heap, room, self.noise)?;
+        match self.terms.checksum {
+            ChecksumChoice::Without => play(heap, tape, NoChecksum, self.terms, steps),
+            ChecksumChoice::Crc16 => play(heap, tape, Crc16, self.terms, steps),
         }
     }
 }
@@ -111,10 +119,8 @@ struct Scene<'a> {
     steps: &'a [Step],
     replies: &'a [Reply],
     carriage: &'a Carriage,
-    passages: &'a [Passage],
     /// The room of the channel when it was empty.
     room: usize,
-    terms: Terms,
 }
 
 impl Scene<'_> {
@@ -123,75 +129,63 @@ impl Scene<'_> {
     }
 
     fn check(&self, run: &Run) -> Result<Broken, AllocError> {
-        check_law(self.heap, run, self.carriage, self.passages, self.terms)
+        check_law(self.heap, run, self.carriage)
     }
 
-    /// Plants the mistake, where the law forbids it, and notes whether the law is then found broken.
-    fn plant(&self, mistake: Mistake, forbidden: bool) -> Result<Planted, AllocError> {
-        let mut planted = Planted::NONE;
-        let (wrong, made) = mistake.make(self.heap, self.run()?)?;
-        if made && forbidden {
-            planted.note(self.check(&wrong)?);
+    /// Plants a mistake, where the law forbids it, and notes whether the law is then found broken.
+    fn plant(&self, planted: &mut Planted) -> Result<(), AllocError> {
+        let mistake = planted.mistake;
+        if mistake.is_forbidden(self.carriage)
+            && let Some(wrong) = mistake.make(self.heap, self.run()?)?
+        {
+            planted.note(&self.check(&wrong)?);
         }
-        Ok(planted)
-    }
-
-    fn findings(&self) -> Result<Findings, AllocError> {
-        let run = self.run()?;
-        let counts = Counts::of(self.replies, &run, self.carriage, self.passages, self.terms);
-        Ok(Findings {
-            counts,
-            broken: self.check(&run)?,
-            swallows: self.plant(Mistake::Swallows, true)?,
-            conceals: self.plant(Mistake::Conceals, true)?,
-            garbles: self.plant(Mistake::Garbles, true)?,
-            calls_damaged: self.plant(Mistake::CallsDamaged, counts.unchanged > 0)?,
-            calls_sound: self.plant(Mistake::CallsSound, counts.within_reach > 0)?,
-        })
+        Ok(())
     }
 }
 
-/// Makes up a script, runs it, and checks the law.
-pub(crate) fn try_script(heap: Global, seed: u64) -> Result<Findings, AllocError> {
-    let mut random = Random::new(seed);
-    let setting = Setting::random(&mut random);
-    let steps = random_script(heap, &mut random, setting.sync)?;
-    let room = 20 + random.below(250);
-    let played = setting.play(heap, room, steps.as_slice())?;
-    let carriage = packets_in(heap, played.passages.as_slice(), setting.terms.fasb)?;
-    let scene = Scene {
-        heap,
-        steps: steps.as_slice(),
-        replies: played.replies.as_slice(),
-        carriage: &carriage,
-        passages: played.passages.as_slice(),
-        room: played.room,
-        terms: setting.terms,
-    };
-    scene.findings()
+impl Default for Findings {
+    /// Those of no script.
+    fn default() -> Findings {
+        Findings {
+            counts: Counts::default(),
+            broken: Broken::default(),
+            planted: Mistake::ALL.map(|mistake| Planted::never(mistake)),
+        }
+    }
 }
 
 impl Findings {
-    pub(crate) const NONE: Findings = Findings {
-        counts: Counts::NONE,
-        broken: Broken::NOT,
-        swallows: Planted::NONE,
-        conceals: Planted::NONE,
-        garbles: Planted::NONE,
-        calls_damaged: Planted::NONE,
-        calls_sound: Planted::NONE,
-    };
-
-    /// Both together.
-    pub(crate) fn with(&self, other: &Findings) -> Findings {
-        Findings {
-            counts: self.counts.with(&other.counts),
-            broken: self.broken.with(other.broken),
-            swallows: self.swallows.with(other.swallows),
-            conceals: self.conceals.with(other.conceals),
-            garbles: self.garbles.with(other.garbles),
-            calls_damaged: self.calls_damaged.with(other.calls_damaged),
-            calls_sound: self.calls_sound.with(other.calls_sound),
+    /// Counts what happened in a script, and checks the law on it.
+    fn add(&mut self, scene: &Scene<'_>) -> Result<(), AllocError> {
+        let run = scene.run()?;
+        self.counts.count(scene.replies, &run, scene.carriage);
+        self.broken += scene.check(&run)?;
+        for planted in self.planted.iter_mut() {
+            scene.plant(planted)?;
         }
+        Ok(())
+    }
+
+    /// Makes up a script, runs it, and checks the law.
+    pub(crate) fn try_script(&mut self, heap: Global, seed: u64) -> Result<(), AllocError> {
+        let mut random = Random::new(seed);
+        let setting = Setting::random(&mut random);
+        let steps = random_script(heap, &mut random, setting.terms.service)?;
+        let room = 20 + random.below(250);
+        let played = setting.play(heap, room, steps.as_slice())?;
+        let Played {
+            replies,
+            passages,
+            room,
+        } = played;
+        let carriage = Carriage::of(heap, passages, setting.terms)?;
+        self.add(&Scene {
+            heap,
+            steps: steps.as_slice(),
+            replies: replies.as_slice(),
+            carriage: &carriage,
+            room,
+        })
     }
 }

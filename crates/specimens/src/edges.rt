@@ -34,6 +34,7 @@ pub fn channels()
 {}
 
 /// The questions about the blocks of a reel.
+#[tactic(auto, using(crate::proofs::Recorded::reel_edges))]
 pub fn reels()
     ensures { ReelEdges }
 {}

@@ -17,16 +17,19 @@ pub fn worked_examples()
 }
 
 /// Packets of 1, 119, 120 and 121 bytes as frames, and the nine digits with their checksum.
+#[tactic(auto, using(crate::proofs::Framed::packets_as_frames))]
 pub fn packets_as_frames()
     ensures { PacketsAsFrames }
 {}
 
 /// Packets of 122 bytes, which a superframe of one frame refuses, and one of two frames accepts or refuses.
+#[tactic(auto, using(crate::proofs::Framed::what_fits))]
 pub fn what_fits()
     ensures { WhatFits }
 {}
 
 /// What lost frames cost.
+#[tactic(auto, using(crate::proofs::Lost::lost_frames))]
 pub fn lost_frames()
     ensures { LostFrames }
 {}
@@ -37,6 +40,7 @@ pub fn sync_headers()
 {}
 
 /// A reel that is lawful, and one that is not.
+#[tactic(auto, using(reel::proofs::Format::examples))]
 pub fn reels()
     ensures { Examples }
 {}

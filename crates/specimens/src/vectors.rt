@@ -4,31 +4,50 @@ ghost use Rattle.specimens.specs.Published.{AllRight};
 
 use checksum::checksum::Checksum;
 use checksum::crc16::Crc16;
+use std::fmt;
 
 /// A message with the value that is published for it, high byte first.
-#[derive(Clone, Copy)]
+#[derive(Clone, Copy, PartialEq, Eq, Debug)]
 pub struct Vector {
     pub name: &'static str,
     pub message: &'static [u8],
     pub expected: [u8; 2],
 }
 
-/// The value that the code computes.
-pub fn value(message: &[u8]) -> [u8; 2]
-    ensures { result ≡ crc16 message.now }
-{
-    let [high, low, _, _] = Crc16.value_of(message);
-    [high, low]
+impl Vector {
+    /// The value that the code computes.
+    pub fn value(&self) -> [u8; 2]
+        ensures { result ≡ crc16 self.now.message.now }
+    {
+        let [high, low, _, _] = Crc16.value_of(self.message);
+        [high, low]
+    }
+
+    /// Whether the code takes the published value for that of the message.
+    pub fn agrees(&self) -> bool
+        ensures { Decides result (crc16 self.now.message.now ≡ self.now.expected) }
+    {
+        Crc16.fits(self.message, &self.expected)
+    }
 }
 
-/// Whether the code takes the published value for that of the message.
-pub fn agrees(message: &[u8], expected: [u8; 2]) -> bool
-    ensures { Decides result (crc16 message.now ≡ expected) }
-{
-    Crc16.fits(message, &expected)
+/// One line: the vector, what the code computes, and whether it agrees.
+impl fmt::Display for Vector {
+    fn fmt<W: fmt::Write>(&self, f: &mut fmt::Formatter<W>) -> fmt::Result {
+        let name = self.name;
+        let length = self.message.len();
+        let [high, low] = self.expected;
+        let [computed_high, computed_low] = self.value();
+        let verdict = if self.agrees() { "ok" } else { "DIFFERS" };
+        write!(
+            f,
+            "{name}: length {length}, expected {high:02X}{low:02X}, computed {computed_high:02X}{computed_low:02X}, {verdict}"
+        )
+    }
 }
 
 /// The published vectors.
+#[tactic(auto, unfolding(checksum::specs::Crc16::step_by, checksum::specs::Crc16::feed_by))]
 pub fn published() -> &'static [Vector; 19]
     ensures { AllRight result.now }
 {

@@ -1,30 +1,19 @@
 -- The lines that answer the commands of a script that need no flow. Each says what the rules give, in the script's words.
 use Rattle.std.specs.Prelude.{◌≡◌, ℕ, Bool, true, false, cond, ◌&&◌, List, [], ◌++◌, length, Some, None, Ok, Err, codes, decimal, MatchBool, Option, Result, nat_le}
+use Rattle.std.specs.List.{flat_map}
 use Rattle.channel.specs.Patterns.{shown}
 use Rattle.channel.specs.declared.pattern.FadePattern.{FadePattern}
-use Rattle.checksum.specs.Crc16.{crc16}
-use Rattle.framing.specs.Giving.{Asked, gives, refuses, is_torn}
-use Rattle.framing.specs.Fragments.{Fragment, body, notional, padding}
-use Rattle.service.specs.declared.header.Kind.{Kind}
-use Rattle.service.specs.declared.header.Kind.TheVariants.{Video, Audio, TimedData, Adaptation}
+use Rattle.framing.specs.Giving.{Asked, gives, refuses, is_torn, asked}
+use Rattle.framing.specs.Fragments.{Fragment, body, notional, padding, fragments}
+use Rattle.service.specs.Words.{word_of_kind}
 use Rattle.service.specs.declared.header.SyncHeader.{SyncHeader}
+use Rattle.spelling.specs.Answer.{yes_or_no}
 use Rattle.spelling.specs.Hex.{in_word}
-use Rattle.wording.specs.declared.kinds.ChecksumKind.{ChecksumKind}
-use Rattle.wording.specs.declared.kinds.ChecksumKind.TheVariants.{Without, Crc16}
+use Rattle.spelling.specs.Optional.{optional_words}
 
-abbrev pub yes_or_no : Bool → List ℕ
-yes_or_no true = codes "yes"
-yes_or_no false = codes "no"
-
+-- a number, or `-` where there is none
 abbrev pub dash_or : Option ℕ → List ℕ
-dash_or None = codes "-"
-dash_or (Some n) = decimal n
-
-abbrev pub word_of_kind : Kind → List ℕ
-word_of_kind Video = codes "video"
-word_of_kind Audio = codes "audio"
-word_of_kind TimedData = codes "data"
-word_of_kind Adaptation = codes "adaptation"
+dash_or n = optional_words decimal [] n (codes "-")
 
 abbrev pub line_end : List ℕ
 line_end = codes "\n"
@@ -75,11 +64,6 @@ abbrev pub reel_line : Option (ℕ × ℕ) → List ℕ
 reel_line None = codes "lawful\n"
 reel_line (Some f) = codes "refused " ++ (decimal f.0 ++ (codes " " ++ (decimal f.1 ++ line_end)))
 
--- the value that the checksum of this name gives
-abbrev pub value_by : ChecksumKind → List ℕ → List ℕ
-value_by Without message = []
-value_by Crc16 message = crc16 message
-
 -- 20: is the pattern, of so many bytes, long enough and not too long?
 abbrev pub fade_line : ℕ → List ℕ
 fade_line n = cond (nat_le 1 n && nat_le n 64) (codes "fade " ++ (decimal n ++ line_end)) (refused_line 20)
@@ -94,8 +78,12 @@ abbrev pub written_line : Result ℕ ℕ → List ℕ → List ℕ
 written_line (Ok n) bytes = wrote_line bytes
 written_line (Err n) bytes = refused_line n
 
--- what is answered for a frame of which the fragments are asked for; of one that gives them it is not said here
-abbrev pub Fragmented : Asked → List ℕ → Type 0
-Fragmented gives text = Unit {0}
-Fragmented (refuses n) text = text ≡ refused_line n
-Fragmented (is_torn n place) text = text ≡ codes "torn " ++ (decimal n ++ (codes " " ++ (decimal place ++ line_end)))
+-- what is answered where asking for the fragments comes to this, and the fragments are these
+abbrev pub asked_lines : Asked → List Fragment → List ℕ
+asked_lines gives all = flat_map fragment_line all ++ codes "nothing\n"
+asked_lines (refuses n) all = refused_line n
+asked_lines (is_torn n place) all = codes "torn " ++ (decimal n ++ (codes " " ++ (decimal place ++ line_end)))
+
+-- what is answered for a frame of which the fragments are asked for: every fragment of it and then nothing, or its refusal
+abbrev pub fragments_lines : List ℕ → List ℕ
+fragments_lines frame = asked_lines (asked frame) (fragments frame)

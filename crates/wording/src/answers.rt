@@ -1,67 +1,21 @@
 //! The lines that answer the commands that need no flow.
-ghost use Rattle.std.specs.Prelude.{◌≡◌, Some, Ok};
+ghost use Rattle.std.specs.Prelude.{Some};
 ghost use Rattle.framing.specs.Giving.{shown as asRule};
 ghost use Rattle.reel.specs.Checking.{told};
-ghost use Rattle.reel.specs.Parts.{number as blockNumber};
 ghost use Rattle.service.specs.Reading.{packet_read};
-ghost use Rattle.wording.specs.Answers.{checksum_line, dash_or, fragment_line, header_line, word_of_kind, reel_line, yes_or_no, wrote_line, flag_words};
+ghost use Rattle.wording.specs.Answers.{checksum_line, fragment_line, header_line, reel_line, wrote_line};
 
 use framing::fragments::Fragment;
-use reel::fault::{BlockFault, ReelFault};
-use service::header::{HeaderFault, Kind};
+use reel::fault::ReelFault;
+use service::header::HeaderFault;
 use service::reading::SyncPacket;
+use spelling::answer::yes_no;
 use spelling::hex::Hex;
+use spelling::optional::Optional;
 use std::fmt;
 
-/// `yes` or `no`.
-#[derive(Clone, Copy)]
-pub struct YesNo(pub bool);
-
-impl fmt::Display for YesNo {
-    ghost output = { λ x. Some (yes_or_no x.0) };
-
-    fn fmt<W: fmt::Write>(&self, f: &mut fmt::Formatter<W>) -> fmt::Result {
-        match self.0 {
-            true => f.write_str("yes"),
-            false => f.write_str("no"),
-        }
-    }
-}
-
-/// A number, or `-` where there is none.
-#[derive(Clone, Copy)]
-struct DashOr(Option<u32>);
-
-impl fmt::Display for DashOr {
-    ghost output = { λ x. Some (dash_or x.0) };
-
-    fn fmt<W: fmt::Write>(&self, f: &mut fmt::Formatter<W>) -> fmt::Result {
-        match self.0 {
-            Some(number) => write!(f, "{number}"),
-            None => f.write_str("-"),
-        }
-    }
-}
-
-/// The word of a script for what a sync packet carries.
-#[derive(Clone, Copy)]
-struct KindWord(Kind);
-
-impl fmt::Display for KindWord {
-    ghost output = { λ x. Some (word_of_kind x.0) };
-
-    fn fmt<W: fmt::Write>(&self, f: &mut fmt::Formatter<W>) -> fmt::Result {
-        match self.0 {
-            Kind::Video => f.write_str("video"),
-            Kind::Audio => f.write_str("audio"),
-            Kind::TimedData => f.write_str("data"),
-            Kind::Adaptation => f.write_str("adaptation"),
-        }
-    }
-}
-
 /// The value of a checksum.
-#[derive(Clone, Copy)]
+#[derive(Clone, Copy, PartialEq, Eq, Debug)]
 pub struct ChecksumLine<'a>(pub &'a [u8]);
 
 impl fmt::Display for ChecksumLine<'_> {
@@ -69,12 +23,12 @@ impl fmt::Display for ChecksumLine<'_> {
 
     fn fmt<W: fmt::Write>(&self, f: &mut fmt::Formatter<W>) -> fmt::Result {
         let value = Hex(self.0);
-        write!(f, "checksum {value}\n")
+        writeln!(f, "checksum {value}")
     }
 }
 
 /// What a sync header tells, or the number of its refusal.
-#[derive(Clone, Copy)]
+#[derive(Clone, Copy, PartialEq, Eq, Debug)]
 pub struct HeaderLine<'a>(pub Result<SyncPacket<'a>, HeaderFault>);
 
 impl fmt::Display for HeaderLine<'_> {
@@ -82,72 +36,36 @@ impl fmt::Display for HeaderLine<'_> {
 
     fn fmt<W: fmt::Write>(&self, f: &mut fmt::Formatter<W>) -> fmt::Result {
         match self.0 {
-            Ok(packet) => {
-                let facts = FactsLine(packet);
-                write!(f, "{facts}")
+            Ok(SyncPacket { header, payload }) => {
+                let kind = header.kind.word();
+                let frame = Optional {
+                    before: "",
+                    value: header.frame_id,
+                    absent: "-",
+                };
+                let time = Optional {
+                    before: "",
+                    value: header.timestamp,
+                    absent: "-",
+                };
+                let access = yes_no(header.access_point);
+                let unreferenced = yes_no(header.unreferenced);
+                let payload = Hex(payload);
+                writeln!(
+                    f,
+                    "header {kind} frame {frame} time {time} access {access} unreferenced {unreferenced} payload {payload}"
+                )
             }
             Err(fault) => {
                 let number = fault.number();
-                write!(f, "refused {number}\n")
+                writeln!(f, "refused {number}")
             }
         }
     }
 }
 
-/// What a lawful sync header tells.
-#[derive(Clone, Copy)]
-struct FactsLine<'a>(SyncPacket<'a>);
-
-impl fmt::Display for FactsLine<'_> {
-    ghost output = { λ x. Some (header_line (packet_read (Ok x.0))) };
-
-    fn fmt<W: fmt::Write>(&self, f: &mut fmt::Formatter<W>) -> fmt::Result {
-        let kind = KindWord(self.0.header.kind);
-        let frame = DashOr(widened(self.0.header.frame_id));
-        let time = DashOr(self.0.header.timestamp);
-        let rest = FlagWords {
-            access: self.0.header.access_point,
-            unreferenced: self.0.header.unreferenced,
-            payload: self.0.payload,
-        };
-        write!(f, "header {kind} frame {frame} time {time} {rest}\n")
-    }
-}
-
-/// The flags of a sync header, and the payload behind it.
-#[derive(Clone, Copy)]
-struct FlagWords<'a> {
-    access: bool,
-    unreferenced: bool,
-    payload: &'a [u8],
-}
-
-impl fmt::Display for FlagWords<'_> {
-    ghost output = { λ x. Some (flag_words x.access x.unreferenced x.payload.now) };
-
-    fn fmt<W: fmt::Write>(&self, f: &mut fmt::Formatter<W>) -> fmt::Result {
-        let access = YesNo(self.access);
-        let unreferenced = YesNo(self.unreferenced);
-        let payload = Hex(self.payload);
-        write!(
-            f,
-            "access {access} unreferenced {unreferenced} payload {payload}"
-        )
-    }
-}
-
-/// The same number.
-fn widened(number: Option<u8>) -> Option<u32>
-    ensures { result ≡ number }
-{
-    match number {
-        Some(number) => Some(u32::from(number)),
-        None => None,
-    }
-}
-
 /// A sync header and its payload, as written.
-#[derive(Clone, Copy)]
+#[derive(Clone, Copy, PartialEq, Eq, Debug)]
 pub struct WroteLine<'a>(pub &'a [u8]);
 
 impl fmt::Display for WroteLine<'_> {
@@ -156,12 +74,12 @@ impl fmt::Display for WroteLine<'_> {
     fn fmt<W: fmt::Write>(&self, f: &mut fmt::Formatter<W>) -> fmt::Result {
         let len = self.0.len();
         let written = Hex(self.0);
-        write!(f, "wrote {len} {written}\n")
+        writeln!(f, "wrote {len} {written}")
     }
 }
 
 /// One fragment of a frame.
-#[derive(Clone, Copy)]
+#[derive(Clone, Copy, PartialEq, Eq, Debug)]
 pub struct FragmentLine<'a>(pub Fragment<'a>);
 
 impl fmt::Display for FragmentLine<'_> {
@@ -173,16 +91,16 @@ impl fmt::Display for FragmentLine<'_> {
                 let len = body.len();
                 let end = if last { "last" } else { "more" };
                 let bytes = Hex(body);
-                write!(f, "body {at} {len} {end} {bytes}\n")
+                writeln!(f, "body {at} {len} {end} {bytes}")
             }
-            Fragment::Notional { at } => write!(f, "notional {at}\n"),
-            Fragment::Padding { at } => write!(f, "padding {at}\n"),
+            Fragment::Notional { at } => writeln!(f, "notional {at}"),
+            Fragment::Padding { at } => writeln!(f, "padding {at}"),
         }
     }
 }
 
 /// Whether a reel is lawful, or the question that was answered no and the place of its block.
-#[derive(Clone, Copy)]
+#[derive(Clone, Copy, PartialEq, Eq, Debug)]
 pub struct ReelLine(pub Result<(), ReelFault>);
 
 impl fmt::Display for ReelLine {
@@ -190,23 +108,12 @@ impl fmt::Display for ReelLine {
 
     fn fmt<W: fmt::Write>(&self, f: &mut fmt::Formatter<W>) -> fmt::Result {
         match self.0 {
-            Ok(()) => f.write_str("lawful\n"),
+            Ok(()) => writeln!(f, "lawful"),
             Err(fault) => {
-                let number = block_question(fault.fault);
+                let number = fault.fault.number();
                 let at = fault.at;
-                write!(f, "refused {number} {at}\n")
+                writeln!(f, "refused {number} {at}")
             }
         }
-    }
-}
-
-/// The number of the question that a block answers with no.
-fn block_question(fault: BlockFault) -> u8
-    ensures { result ≡ blockNumber fault }
-{
-    match fault {
-        BlockFault::SuperframeSize => 21,
-        BlockFault::Map => 22,
-        BlockFault::Frames => 23,
     }
 }

@@ -3,5 +3,4 @@
 
 pub mod answering;
 mod answers;
-pub mod kinds;
 pub mod replies;

@@ -7,8 +7,8 @@ use Rattle.script.specs.Steps.{ReadInto, ReadsOn}
 use Rattle.script.proofs.Drained.{tells_one, drains_more}
 use Rattle.script.proofs.session.Session.drain.Goals as goal
 
-pub returns-in_default : goal.returns-in_default
-returns-in_default g c =
+pub returns-in-Err : goal.returns-in-Err
+returns-in-Err g c =
     let items = sym c.ready.ensures.items in (
       record {
         answers = c.ready.new.answers;
@@ -16,7 +16,7 @@ returns-in_default g c =
         reads =
             subst
             (λ (l : List Answered).
-            ReadsOn g.C.Channel.slots g.C.Channel.space g.C.Channel.made g.C.Channel.tied g.K.Checksum.width g.K.Checksum.value g.S.Service.verdict l c.args.self c.loop-buffer.session)
+            ReadsOn g.C.Channel.slots g.C.Channel.space g.C.Channel.made g.C.Channel.tied g.K.Checksum.width g.K.Checksum.value g.S.Service.verdict l c.args.self.now c.loop-buffer.self)
             items c.loop-buffer.invariant.0;
       },
       subst (λ (l : List Answered). AllByRecursion NotNothing l) items c.loop-buffer.invariant.1,
@@ -25,19 +25,19 @@ returns-in_default g c =
 pub returns-then-last : goal.returns-then-last
 returns-then-last g c =
     let before = vec_items c.loop-buffer.answers in
-    let items : vec_items c.push_reserved.new.self ≡ before ++ c.read-next.result.1 ∷ [] =
-    c.push_reserved.ensures.items ∙ ap (λ (l : List Answered). l ++ c.read-next.result.1 ∷ []) c.ready.ensures.items in (
+    let items : vec_items c.push_reserved.new.self ≡ before ++ c.read-answered.result ∷ [] =
+    c.push_reserved.ensures.items ∙ ap (λ (l : List Answered). l ++ c.read-answered.result ∷ []) c.ready.ensures.items in (
       record {
         answers = c.push_reserved.new.self;
         reply_is = refl;
         reads =
             drains_more g.C.Channel.slots g.C.Channel.space g.C.Channel.made g.C.Channel.tied g.K.Checksum.width g.K.Checksum.value g.S.Service.verdict
-            before (vec_items c.push_reserved.new.self) c.read-next.result.1 (vec_items c.in-Ok.buffer) c.args.self c.loop-buffer.session c.read-next.result.0
-            items c.in-Ok.ensures.made.0 c.loop-buffer.invariant.0 c.read-next.ensures;
+            before (vec_items c.push_reserved.new.self) c.read-answered.result (vec_items c.in-Ok.buffer) c.args.self.now c.loop-buffer.self c.read-answered.new.self
+            items c.in-Ok.ensures.made.0 c.loop-buffer.invariant.0 c.read-answered.ensures;
       },
       record {
         earlier = before;
-        last = c.read-next.result.1;
+        last = c.read-answered.result;
         whole = items;
         not_before = c.loop-buffer.invariant.1;
         then = c.is_nothing-last.ensures.0 c.if-last.true;
@@ -47,21 +47,21 @@ returns-then-last g c =
 pub loop-buffer-smaller : goal.loop-buffer-smaller
 loop-buffer-smaller g c =
     tells_one g.C.Channel.slots g.C.Channel.space g.C.Channel.made g.C.Channel.tied g.K.Checksum.width g.K.Checksum.value g.S.Service.verdict
-    c.read-next.result.1 c.loop-buffer.session c.read-next.result.0
+    c.read-answered.result c.loop-buffer.self c.read-answered.new.self
     (subst
     (λ b.
-    ReadInto g.C.Channel.slots g.C.Channel.space g.C.Channel.made g.C.Channel.tied g.K.Checksum.width g.K.Checksum.value g.S.Service.verdict b c.read-next.result.1 c.loop-buffer.session c.read-next.result.0)
-    c.in-Ok.ensures.made.0 c.read-next.ensures)
+    ReadInto g.C.Channel.slots g.C.Channel.space g.C.Channel.made g.C.Channel.tied g.K.Checksum.width g.K.Checksum.value g.S.Service.verdict b c.read-answered.result c.loop-buffer.self c.read-answered.new.self)
+    c.in-Ok.ensures.made.0 c.read-answered.ensures)
     (c.is_nothing-last.ensures.1 c.if-last.false)
 
 pub loop-buffer-preserved : goal.loop-buffer-preserved
 loop-buffer-preserved g c =
     let before = vec_items c.loop-buffer.answers in
-    let items : vec_items c.push_reserved.new.self ≡ before ++ c.read-next.result.1 ∷ [] =
-    c.push_reserved.ensures.items ∙ ap (λ (l : List Answered). l ++ c.read-next.result.1 ∷ []) c.ready.ensures.items in (
+    let items : vec_items c.push_reserved.new.self ≡ before ++ c.read-answered.result ∷ [] =
+    c.push_reserved.ensures.items ∙ ap (λ (l : List Answered). l ++ c.read-answered.result ∷ []) c.ready.ensures.items in (
       drains_more g.C.Channel.slots g.C.Channel.space g.C.Channel.made g.C.Channel.tied g.K.Checksum.width g.K.Checksum.value g.S.Service.verdict
-          before (vec_items c.push_reserved.new.self) c.read-next.result.1 (vec_items c.in-Ok.buffer) c.args.self c.loop-buffer.session c.read-next.result.0
-          items c.in-Ok.ensures.made.0 c.loop-buffer.invariant.0 c.read-next.ensures,
+          before (vec_items c.push_reserved.new.self) c.read-answered.result (vec_items c.in-Ok.buffer) c.args.self.now c.loop-buffer.self c.read-answered.new.self
+          items c.in-Ok.ensures.made.0 c.loop-buffer.invariant.0 c.read-answered.ensures,
       subst (λ (l : List Answered). AllByRecursion NotNothing l) (sym items)
-          (All-push NotNothing before c.read-next.result.1 c.loop-buffer.invariant.1 (c.is_nothing-last.ensures.1 c.if-last.false)),
+          (All-push NotNothing before c.read-answered.result c.loop-buffer.invariant.1 (c.is_nothing-last.ensures.1 c.if-last.false)),
     )
