@@ -1,21 +1,24 @@
-//! The catalogue of the specimen reel as JSON, so that the gate compares it.
+//! The catalogue of the specimen reel as JSON, so that the gate compares it: one program for each form, since the gate keeps one output
+//! for each program.
 #![tactic(auto)]
 
-use report::catalogue::write_json;
-use report::settings::{ChecksumChoice, ServiceChoice, Settings};
+use report::catalogue::write_catalogue;
+use report::json::JsonCatalogue;
+use report::settings::Settings;
+use report::source::Source;
 use report::visit::Silent;
 use std::fs;
 
 fn main(rt: HostRuntime) -> anyhow::Result<()> {
     let name = "specimen.reel";
     let reel = fs::read(&rt, name)?;
-    let settings = Settings {
-        fasb: false,
-        checksum: ChecksumChoice::Crc16,
-        service: ServiceChoice::Sync,
+    let source = Source {
+        name,
+        reel: reel.as_slice(),
+        settings: Settings::default(),
     };
     let mut text = String::new(rt.alloc());
-    write_json(name, reel.as_slice(), settings, &mut text, &mut Silent)?;
+    write_catalogue(source, &mut JsonCatalogue::to(&mut text), &mut Silent)?;
     rt.print(text.as_str())?;
     Ok(())
 }

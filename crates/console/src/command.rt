@@ -2,14 +2,17 @@
 ghost use Rattle.std.specs.Prelude.{◌≡◌, ℕ, List, IfOk, Some};
 ghost use Rattle.console.specs.Commands.{runs, RunsOnly, NamedBy, NamedFirst};
 
+// The texts are found here too, where they have been from the first.
 pub use crate::help::{HELP, VERSION};
 use crate::nearest::{nearest_first, nearest_switch, nearest_verb};
-use crate::verb::{Switch, Verb};
-use report::settings::{ChecksumChoice, ServiceChoice, Settings};
+use crate::verb::{Switch, Verb, Word};
+use checksum::choice::ChecksumChoice;
+use report::settings::Settings;
+use service::choice::ServiceChoice;
 use std::fmt;
 
 /// What the arguments ask for.
-#[derive(Clone, Copy)]
+#[derive(Clone, Copy, PartialEq, Eq, Debug)]
 pub enum Command<'a> {
     /// All that the reel holds, superframe by superframe.
     Catalogue {
@@ -56,7 +59,7 @@ pub enum Command<'a> {
 }
 
 /// What is wrong with the arguments.
-#[derive(Clone, Copy)]
+#[derive(Clone, Copy, PartialEq, Eq, Debug)]
 pub enum CommandFault<'a> {
     Missing,
     UnknownCommand(&'a str),
@@ -71,7 +74,7 @@ pub enum CommandFault<'a> {
 
 impl fmt::Display for CommandFault<'_> {
     fn fmt<W: fmt::Write>(&self, f: &mut fmt::Formatter<W>) -> fmt::Result {
-        match self {
+        match *self {
             CommandFault::Missing => f.write_str("no command is given"),
             CommandFault::UnknownCommand(word) => {
                 let nearest = nearest_verb(word).word();
@@ -85,15 +88,10 @@ impl fmt::Display for CommandFault<'_> {
                 )
             }
             CommandFault::UnknownOption { verb, word } => {
-                let nearest = nearest_switch(*verb, word).word();
-                let verb = verb.word();
-                write!(f, "{verb} has no option {word}; did you mean {nearest}?")
+                write_not_taken(f, verb, "has no option", word)
             }
             CommandFault::NotForCommand { verb, switch } => {
-                let nearest = nearest_switch(*verb, switch.word()).word();
-                let verb = verb.word();
-                let word = switch.word();
-                write!(f, "{verb} does not take {word}; did you mean {nearest}?")
+                write_not_taken(f, verb, "does not take", switch.word())
             }
             CommandFault::NoValue(switch) => {
                 let word = switch.word();
@@ -114,23 +112,26 @@ impl fmt::Display for CommandFault<'_> {
     }
 }
 
-/// The settings where no option says otherwise: those of the museum's own recordings. A reel of another kind shows by its
-/// packets, which are then damaged or foreign one and all; the opposite choice would pass checksums off as payload.
-pub const DEFAULT_SETTINGS: Settings = Settings {
-    fasb: false,
-    checksum: ChecksumChoice::Crc16,
-    service: ServiceChoice::Sync,
-};
+/// A command has no such option: which one was probably meant.
+fn write_not_taken<W: fmt::Write>(
+    f: &mut fmt::Formatter<W>,
+    verb: Verb,
+    refuses: &str,
+    word: &str,
+) -> fmt::Result {
+    let nearest = nearest_switch(verb, word).word();
+    let verb = verb.word();
+    write!(f, "{verb} {refuses} {word}; did you mean {nearest}?")
+}
 
-/// What the words behind a command say. A name is held by its place among the words.
+/// What the words behind a command say.
 #[derive(Clone, Copy)]
-struct Asked {
-    first: Option<usize>,
-    second: Option<usize>,
-    picture: Option<usize>,
-    fasb: bool,
-    checksum: ChecksumChoice,
-    service: ServiceChoice,
+struct Asked<'a> {
+    verb: Verb,
+    first: Option<&'a str>,
+    second: Option<&'a str>,
+    picture: Option<&'a str>,
+    settings: Settings,
     json: bool,
     progress: bool,
     help: bool,
@@ -140,38 +141,36 @@ struct Asked {
     names_only: bool,
 }
 
-/// What an option with a value asks for.
-#[derive(Clone, Copy)]
-enum Value {
-    Fasb(bool),
-    Checksum(ChecksumChoice),
-    Service(ServiceChoice),
-    Picture,
-}
-
-/// The value of an option that this word names.
-fn value_of(switch: Switch, word: &str) -> Option<Value> {
-    match (switch, word) {
-        (Switch::Fasb, "on") => Some(Value::Fasb(true)),
-        (Switch::Fasb, "off") => Some(Value::Fasb(false)),
-        (Switch::Checksum, "none") => Some(Value::Checksum(ChecksumChoice::Without)),
-        (Switch::Checksum, "crc16") => Some(Value::Checksum(ChecksumChoice::Crc16)),
-        (Switch::Service, "plain") => Some(Value::Service(ServiceChoice::Plain)),
-        (Switch::Service, "sync") => Some(Value::Service(ServiceChoice::Sync)),
-        (Switch::Out, _) => Some(Value::Picture),
+/// What `--fasb` is to be by this word.
+fn on_or_off(word: &str) -> Option<bool> {
+    match word {
+        "on" => Some(true),
+        "off" => Some(false),
         _ => None,
     }
 }
 
-impl Asked {
-    fn nothing() -> Asked {
+/// The option of a command that a word names.
+fn switch_for(verb: Verb, word: &str) -> Result<Switch, CommandFault<'_>> {
+    match Switch::named(word) {
+        Some(switch) if verb.takes(switch) => Ok(switch),
+        Some(switch) => Err(CommandFault::NotForCommand { verb, switch }),
+        None => Err(CommandFault::UnknownOption { verb, word }),
+    }
+}
+
+impl<'a> Asked<'a> {
+    /// Of a command that no words follow. The settings are then those of the museum's own recordings. A reel of another kind shows by
+    /// its packets, which are then damaged or foreign one and all; the opposite choice would pass checksums off as payload.
+    fn nothing(verb: Verb) -> Asked<'a>
+        ensures { result.verb ≡ verb }
+    {
         Asked {
+            verb,
             first: None,
             second: None,
             picture: None,
-            fasb: DEFAULT_SETTINGS.fasb,
-            checksum: DEFAULT_SETTINGS.checksum,
-            service: DEFAULT_SETTINGS.service,
+            settings: Settings::default(),
             json: false,
             progress: false,
             help: false,
@@ -180,233 +179,170 @@ impl Asked {
         }
     }
 
-    fn settings(self) -> Settings {
-        Settings {
-            fasb: self.fasb,
-            checksum: self.checksum,
-            service: self.service,
+    /// Of a command that these words follow.
+    fn read(verb: Verb, words: &'a [String]) -> Result<Asked<'a>, CommandFault<'a>>
+        ensures { IfOk result (λ asked. asked.verb ≡ verb) }
+    {
+        let mut asked = Asked::nothing(verb);
+        for word in words {
+            asked.add(word.as_str())?;
+        }
+        match asked.open {
+            Some(switch) if !asked.help => Err(CommandFault::NoValue(switch)),
+            _ => Ok(asked),
         }
     }
 
-    /// With a value for an option, from the word at this place.
-    fn with_value(mut self, value: Value, at: usize) -> Asked {
-        self.open = None;
-        match value {
-            Value::Fasb(on) => self.fasb = on,
-            Value::Checksum(checksum) => self.checksum = checksum,
-            Value::Service(service) => self.service = service,
-            Value::Picture => self.picture = Some(at),
+    /// Takes a word more: the value of an option, an option, or a name.
+    fn add(&mut self, word: &'a str) -> Result<(), CommandFault<'a>>
+        ensures { self.new.verb ≡ self.old.verb }
+    {
+        if let Some(switch) = self.open.take() {
+            return self
+                .set(switch, word)
+                .ok_or(CommandFault::BadValue { switch, word });
         }
-        self
+        if !self.names_only && word.starts_with('-') && word != "-" {
+            return self.add_option(word);
+        }
+        self.add_name(word)
     }
 
-    /// With a name more, unless there are two already.
-    fn with_name(mut self, at: usize) -> Option<Asked> {
-        if self.first.is_none() {
-            self.first = Some(at);
-            return Some(self);
-        }
-        if self.second.is_none() {
-            self.second = Some(at);
-            return Some(self);
-        }
-        None
-    }
-
-    /// With an option more.
-    fn with_switch(mut self, switch: Switch) -> Asked {
+    /// Takes a value for an option, unless the word names none.
+    fn set(&mut self, switch: Switch, word: &'a str) -> Option<()>
+        ensures { self.new.verb ≡ self.old.verb }
+    {
         match switch {
+            Switch::Fasb => self.settings.fasb = on_or_off(word)?,
+            Switch::Checksum => {
+                self.settings.checksum = ChecksumChoice::named(word.as_bytes())?;
+            }
+            Switch::Service => self.settings.service = ServiceChoice::named(word.as_bytes())?,
+            Switch::Out => self.picture = Some(word),
+            _ => return None,
+        }
+        Some(())
+    }
+
+    /// Takes an option, or the two dashes behind which only names follow.
+    fn add_option(&mut self, word: &'a str) -> Result<(), CommandFault<'a>>
+        ensures { self.new.verb ≡ self.old.verb }
+    {
+        if word == "--" {
+            self.names_only = true;
+            return Ok(());
+        }
+        match switch_for(self.verb, word)? {
             Switch::Json => self.json = true,
             Switch::Progress => self.progress = true,
             Switch::Help => self.help = true,
-            _ => self.open = Some(switch),
+            with_value => self.open = Some(with_value),
         }
-        self
+        Ok(())
     }
 
-    /// With only names to follow.
-    fn with_names_only(mut self) -> Asked {
-        self.names_only = true;
-        self
+    /// Takes a name, unless there are two already.
+    fn add_name(&mut self, word: &'a str) -> Result<(), CommandFault<'a>>
+        ensures { self.new.verb ≡ self.old.verb }
+    {
+        if self.first.is_none() {
+            self.first = Some(word);
+        } else if self.second.is_none() {
+            self.second = Some(word);
+        } else {
+            return Err(CommandFault::TooMany(word));
+        }
+        Ok(())
     }
 
-    /// Is this word an option?
-    fn takes_as_option(self, word: &str) -> bool {
-        !self.names_only && word.len() > 1 && word.as_bytes().first().copied() == Some(b'-')
+    /// The refusal of a command that lacks this.
+    fn wanting(self, what: &'static str) -> CommandFault<'a> {
+        let verb = self.verb;
+        CommandFault::Wanting { verb, what }
     }
-}
 
-/// The option of a command that a word names.
-fn switch_for<'a>(verb: Verb, word: &'a str) -> Result<Switch, CommandFault<'a>> {
-    match Switch::named(word) {
-        Some(switch) if verb.takes(switch) => Ok(switch),
-        Some(switch) => Err(CommandFault::NotForCommand { verb, switch }),
-        None => Err(CommandFault::UnknownOption { verb, word }),
+    /// The first name, which the command has to have, with none behind it.
+    fn one_name(self, what: &'static str) -> Result<&'a str, CommandFault<'a>> {
+        match self.second {
+            Some(word) => Err(CommandFault::TooMany(word)),
+            None => self.first.ok_or(self.wanting(what)),
+        }
     }
-}
 
-/// With an option more.
-fn with_option<'a>(asked: Asked, verb: Verb, word: &'a str) -> Result<Asked, CommandFault<'a>> {
-    if word == "--" {
-        return Ok(asked.with_names_only());
+    /// The reel, where the command has that name alone.
+    fn one_reel(self) -> Result<&'a str, CommandFault<'a>> {
+        self.one_name("the name of a reel")
     }
-    Ok(asked.with_switch(switch_for(verb, word)?))
-}
 
-/// With a word more, the one at this place.
-fn with_word<'a>(
-    asked: Asked,
-    verb: Verb,
-    word: &'a str,
-    at: usize,
-) -> Result<Asked, CommandFault<'a>> {
-    if let Some(switch) = asked.open {
-        return match value_of(switch, word) {
-            Some(value) => Ok(asked.with_value(value, at)),
-            None => Err(CommandFault::BadValue { switch, word }),
+    /// `extract`, of what its words say.
+    fn extract(self) -> Result<Command<'a>, CommandFault<'a>>
+        ensures { IfOk result (λ c. runs c ≡ Some Verb.Extract) }
+    {
+        let Some((reel, directory)) = self.first.zip(self.second) else {
+            return Err(self.wanting("the names of a reel and of a directory"));
         };
-    }
-    if asked.takes_as_option(word) {
-        return with_option(asked, verb, word);
-    }
-    match asked.with_name(at) {
-        Some(more) => Ok(more),
-        None => Err(CommandFault::TooMany(word)),
-    }
-}
-
-/// What the words behind a command say.
-fn read_words<'a>(verb: Verb, words: &'a [String]) -> Result<Asked, CommandFault<'a>> {
-    let mut asked = Asked::nothing();
-    for at in 0..words.len() {
-        asked = with_word(asked, verb, words[at].as_str(), at)?;
-    }
-    match asked.open {
-        Some(switch) if !asked.help => Err(CommandFault::NoValue(switch)),
-        _ => Ok(asked),
-    }
-}
-
-/// The word at a place, if any.
-fn word_at<'a>(words: &'a [String], at: Option<usize>) -> Option<&'a str> {
-    match at {
-        Some(at) if at < words.len() => Some(words[at].as_str()),
-        _ => None,
-    }
-}
-
-/// The first name, which the command has to have, with none behind it.
-fn one_name<'a>(
-    verb: Verb,
-    words: &'a [String],
-    asked: Asked,
-    what: &'static str,
-) -> Result<&'a str, CommandFault<'a>> {
-    if let Some(word) = word_at(words, asked.second) {
-        return Err(CommandFault::TooMany(word));
-    }
-    match word_at(words, asked.first) {
-        Some(name) => Ok(name),
-        None => Err(CommandFault::Wanting { verb, what }),
-    }
-}
-
-/// `extract`, of what its words say.
-fn extract<'a>(words: &'a [String], asked: Asked) -> Result<Command<'a>, CommandFault<'a>>
-    ensures { IfOk result (λ c. runs c ≡ Some Verb.Extract) }
-{
-    let settings = asked.settings();
-    let progress = asked.progress;
-    match (word_at(words, asked.first), word_at(words, asked.second)) {
-        (Some(reel), Some(directory)) => Ok(Command::Extract {
+        Ok(Command::Extract {
             reel,
             directory,
-            settings,
-            progress,
-        }),
-        _ => Err(CommandFault::Wanting {
-            verb: Verb::Extract,
-            what: "the names of a reel and of a directory",
-        }),
+            settings: self.settings,
+            progress: self.progress,
+        })
     }
-}
 
-/// `map`, of what its words say.
-fn map<'a>(words: &'a [String], asked: Asked) -> Result<Command<'a>, CommandFault<'a>>
-    ensures { IfOk result (λ c. runs c ≡ Some Verb.Map) }
-{
-    let settings = asked.settings();
-    let progress = asked.progress;
-    let reel = one_name(Verb::Map, words, asked, "the name of a reel")?;
-    match word_at(words, asked.picture) {
-        Some(picture) => Ok(Command::Map {
+    /// `map`, of what its words say.
+    fn map(self) -> Result<Command<'a>, CommandFault<'a>>
+        ensures { IfOk result (λ c. runs c ≡ Some Verb.Map) }
+    {
+        let reel = self.one_reel()?;
+        let example = "-o and the name of the picture, as in -o reel.svg";
+        let picture = self.picture.ok_or(self.wanting(example))?;
+        Ok(Command::Map {
             reel,
             picture,
-            settings,
-            progress,
-        }),
-        None => Err(CommandFault::Wanting {
-            verb: Verb::Map,
-            what: "-o and the name of the picture, as in -o reel.svg",
-        }),
+            settings: self.settings,
+            progress: self.progress,
+        })
     }
-}
 
-/// The file that a script is read from: a dash is standard input.
-fn script_name<'a>(word: Option<&'a str>) -> Option<&'a str> {
-    match word {
-        Some("-") => None,
-        _ => word,
+    /// `play`, of what its words say: a dash in place of the script's name is standard input.
+    fn play(self) -> Result<Command<'a>, CommandFault<'a>>
+        ensures { IfOk result (λ c. runs c ≡ Some Verb.Play) }
+    {
+        match self.second {
+            Some(word) => Err(CommandFault::TooMany(word)),
+            None => Ok(Command::Play {
+                script: self.first.filter(|name| *name != "-"),
+            }),
+        }
     }
-}
 
-/// `play`, of what its words say.
-fn play<'a>(words: &'a [String], asked: Asked) -> Result<Command<'a>, CommandFault<'a>>
-    ensures { IfOk result (λ c. runs c ≡ Some Verb.Play) }
-{
-    match word_at(words, asked.second) {
-        Some(word) => Err(CommandFault::TooMany(word)),
-        None => Ok(Command::Play {
-            script: script_name(word_at(words, asked.first)),
-        }),
-    }
-}
-
-/// The command of what its words say.
-fn command_of<'a>(
-    verb: Verb,
-    words: &'a [String],
-    asked: Asked,
-) -> Result<Command<'a>, CommandFault<'a>>
-    ensures { IfOk result (λ c. RunsOnly verb (runs c)) }
-{
-    let progress = asked.progress;
-    match verb {
-        _ if asked.help => Ok(Command::Help(Some(verb))),
-        Verb::Catalogue => {
-            let reel = one_name(verb, words, asked, "the name of a reel")?;
-            Ok(Command::Catalogue {
-                reel,
-                settings: asked.settings(),
-                json: asked.json,
+    /// The command of what its words say.
+    fn command(self) -> Result<Command<'a>, CommandFault<'a>>
+        ensures { IfOk result (λ c. RunsOnly self.entry.verb (runs c)) }
+    {
+        let progress = self.progress;
+        match self.verb {
+            verb if self.help => Ok(Command::Help(Some(verb))),
+            Verb::Catalogue => Ok(Command::Catalogue {
+                reel: self.one_reel()?,
+                settings: self.settings,
+                json: self.json,
                 progress,
-            })
+            }),
+            Verb::Extract => self.extract(),
+            Verb::Map => self.map(),
+            Verb::Verify => Ok(Command::Verify {
+                reel: self.one_reel()?,
+            }),
+            Verb::Frames => Ok(Command::Frames {
+                reel: self.one_reel()?,
+                progress,
+            }),
+            Verb::Header => Ok(Command::Header {
+                digits: self.one_name("the hex digits of a packet")?,
+            }),
+            Verb::Play => self.play(),
         }
-        Verb::Extract => extract(words, asked),
-        Verb::Map => map(words, asked),
-        Verb::Verify => {
-            let reel = one_name(verb, words, asked, "the name of a reel")?;
-            Ok(Command::Verify { reel })
-        }
-        Verb::Frames => {
-            let reel = one_name(verb, words, asked, "the name of a reel")?;
-            Ok(Command::Frames { reel, progress })
-        }
-        Verb::Header => {
-            let digits = one_name(verb, words, asked, "the hex digits of a packet")?;
-            Ok(Command::Header { digits })
-        }
-        Verb::Play => play(words, asked),
     }
 }
 
@@ -416,10 +352,9 @@ fn help_on<'a>(rest: &'a [String]) -> Result<Command<'a>, CommandFault<'a>>
 {
     match rest {
         [] => Ok(Command::Help(None)),
-        [word] => match Verb::named(word.as_str()) {
-            Some(verb) => Ok(Command::Help(Some(verb))),
-            None => Err(CommandFault::UnknownCommand(word.as_str())),
-        },
+        [word] => Verb::named(word.as_str())
+            .map(|verb| Command::Help(Some(verb)))
+            .ok_or(CommandFault::UnknownCommand(word.as_str())),
         [_, second, ..] => Err(CommandFault::TooMany(second.as_str())),
     }
 }
@@ -428,10 +363,10 @@ fn help_on<'a>(rest: &'a [String]) -> Result<Command<'a>, CommandFault<'a>>
 pub fn parse(words: &[String]) -> Result<Command<'_>, CommandFault<'_>>
     ensures { IfOk result (λ c. NamedFirst words.now (runs c)) }
 {
-    let Some(first) = words.first() else {
+    let Some((first, rest)) = words.split_first() else {
         return Err(CommandFault::Missing);
     };
-    parse_first(first.as_str(), &words[1..])
+    parse_first(first.as_str(), rest)
 }
 
 /// What the first word after the program's name and those behind it ask for.
@@ -453,10 +388,8 @@ fn command_named<'a>(word: &'a str, rest: &'a [String]) -> Result<Command<'a>, C
     ensures { IfOk result (λ c. NamedBy word.now (runs c)) }
 {
     match Verb::named(word) {
-        Some(verb) => command_of(verb, rest, read_words(verb, rest)?),
-        None if word.as_bytes().first().copied() == Some(b'-') => {
-            Err(CommandFault::UnknownFirst(word))
-        }
+        Some(verb) => Asked::read(verb, rest)?.command(),
+        None if word.starts_with('-') => Err(CommandFault::UnknownFirst(word)),
         None => Err(CommandFault::UnknownCommand(word)),
     }
 }

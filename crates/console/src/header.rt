@@ -1,13 +1,17 @@
+use arrayvec::ArrayVec;
+use framing::judging::PACKET_MAX;
 use service::reading::read_header;
+use spelling::hex::byte_of_digits;
 use std::fmt;
 
 /// A sync header in words, from the hex digits of a packet, two a byte.
-#[derive(Clone, Copy)]
+#[derive(Clone, Copy, PartialEq, Eq, Debug)]
 pub struct HeaderReport<'a> {
     pub digits: &'a str,
 }
 
 /// Why digits are no packet.
+#[derive(Clone, Copy)]
 enum DigitFault {
     /// Not a hex digit, or an odd number of them.
     NotHex,
@@ -15,47 +19,31 @@ enum DigitFault {
     TooLong,
 }
 
-/// The value of a hex digit.
-fn digit_value(digit: u8) -> Option<u8> {
-    match digit {
-        b'0'..=b'9' => Some(digit - b'0'),
-        b'a'..=b'f' => Some(digit - b'a' + 10),
-        b'A'..=b'F' => Some(digit - b'A' + 10),
-        _ => None,
-    }
-}
-
-/// Puts the bytes of hex digits at the front of `packet`, and gives their number.
-fn decode(digits: &[u8], packet: &mut [u8; 2044]) -> Result<usize, DigitFault> {
-    let count = digits.len() / 2;
-    if digits.len() % 2 != 0 {
+/// The bytes of a packet that hex digits spell. (spelling's `decode` takes memory for them, and a report that is printed has none.)
+fn decode(digits: &[u8]) -> Result<ArrayVec<u8, PACKET_MAX>, DigitFault> {
+    let mut packet = ArrayVec::new();
+    let (pairs, odd) = digits.as_chunks::<2>();
+    if !odd.is_empty() {
         return Err(DigitFault::NotHex);
     }
-    if count > 2044 {
+    if pairs.len() > packet.capacity() {
         return Err(DigitFault::TooLong);
     }
-    for i in 0..count {
-        let (Some(high), Some(low)) = (digit_value(digits[2 * i]), digit_value(digits[2 * i + 1]))
-        else {
-            return Err(DigitFault::NotHex);
-        };
-        packet[i] = (high & 0x0f) << 4 | (low & 0x0f);
+    for [high, low] in pairs {
+        let byte = byte_of_digits(*high, *low).ok_or(DigitFault::NotHex)?;
+        packet.try_push(byte).map_err(|_| DigitFault::TooLong)?;
     }
-    Ok(count)
+    Ok(packet)
 }
 
 impl fmt::Display for HeaderReport<'_> {
     fn fmt<W: fmt::Write>(&self, f: &mut fmt::Formatter<W>) -> fmt::Result {
-        let mut packet = [0; 2044];
-        let count = match decode(self.digits.as_bytes(), &mut packet) {
-            Ok(count) => count,
+        let packet = match decode(self.digits.as_bytes()) {
+            Ok(packet) => packet,
             Err(DigitFault::NotHex) => return writeln!(f, "these are not hex digits, two a byte"),
             Err(DigitFault::TooLong) => return writeln!(f, "a packet has no more than 2,044 bytes"),
         };
-        if count > 2044 {
-            return Ok(());
-        }
-        match read_header(&packet[0..count]) {
+        match read_header(packet.as_slice()) {
             Ok(read) => {
                 let header = read.header;
                 let payload = read.payload.len();

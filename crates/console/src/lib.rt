@@ -6,6 +6,5 @@ pub mod frames;
 pub mod header;
 pub mod help;
 pub mod nearest;
-pub mod text;
 pub mod verb;
 pub mod verify;

@@ -1,8 +1,28 @@
 //! The words that the program knows: its commands and its options.
-ghost use Rattle.std.specs.Prelude.{◌≡◌};
+ghost use Rattle.std.specs.Prelude.{◌≡◌, ℕ, List};
+ghost use Rattle.std.specs.List.{find};
+ghost use Rattle.std.specs.Str.{bytes_eq};
 ghost use Rattle.console.specs.Verbs.{verb_word, switch_word, takes_switch, VerbNamed, SwitchNamed};
+
+/// What has a word on the command line.
+pub trait Word: Copy + Drop {
+    // The letters of the word.
+    ghost spelled: { Self → List ℕ };
+
+    /// The word for it.
+    fn word(self) -> &'static str
+        ensures { result.now ≡ spelled self };
+}
+
+/// The first of these whose word this is.
+fn with_word<T: Word>(all: &[T], word: &str) -> Option<T>
+    ensures { result ≡ find (λ x. bytes_eq (T.spelled x) word.now) all.now }
+{
+    all.iter().copied().find(|x| x.word() == word)
+}
+
 /// A command.
-#[derive(Clone, Copy, PartialEq, Eq)]
+#[derive(Clone, Copy, PartialEq, Eq, Debug)]
 pub enum Verb {
     Catalogue,
     Extract,
@@ -25,7 +45,7 @@ pub const VERBS: [Verb; 7] = [
 ];
 
 /// An option.
-#[derive(Clone, Copy, PartialEq, Eq)]
+#[derive(Clone, Copy, PartialEq, Eq, Debug)]
 pub enum Switch {
     Fasb,
     Checksum,
@@ -49,11 +69,10 @@ pub const SWITCHES: [Switch; 8] = [
     Switch::Version,
 ];
 
-impl Verb {
-    /// The word for it.
-    pub fn word(self) -> &'static str
-        ensures { result.now ≡ verb_word self }
-    {
+impl Word for Verb {
+    ghost spelled = { verb_word };
+
+    fn word(self) -> &'static str {
         match self {
             Verb::Catalogue => "catalogue",
             Verb::Extract => "extract",
@@ -64,21 +83,14 @@ impl Verb {
             Verb::Play => "play",
         }
     }
+}
 
+impl Verb {
     /// The command that this word names.
     pub fn named(word: &str) -> Option<Verb>
         ensures { VerbNamed word.now result }
     {
-        match word {
-            "catalogue" => Some(Verb::Catalogue),
-            "extract" => Some(Verb::Extract),
-            "map" => Some(Verb::Map),
-            "verify" => Some(Verb::Verify),
-            "frames" => Some(Verb::Frames),
-            "header" => Some(Verb::Header),
-            "play" => Some(Verb::Play),
-            _ => None,
-        }
+        with_word(&VERBS, word)
     }
 
     /// Does the command take this option?
@@ -86,33 +98,22 @@ impl Verb {
         ensures { result ≡ takes_switch self switch }
     {
         match switch {
-            Switch::Fasb | Switch::Checksum | Switch::Service => match self {
-                Verb::Catalogue | Verb::Extract | Verb::Map => true,
-                _ => false,
-            },
-            Switch::Json => match self {
-                Verb::Catalogue => true,
-                _ => false,
-            },
-            Switch::Out => match self {
-                Verb::Map => true,
-                _ => false,
-            },
-            Switch::Progress => match self {
-                Verb::Header | Verb::Play => false,
-                _ => true,
-            },
+            Switch::Fasb | Switch::Checksum | Switch::Service => {
+                matches!(self, Verb::Catalogue | Verb::Extract | Verb::Map)
+            }
+            Switch::Json => matches!(self, Verb::Catalogue),
+            Switch::Out => matches!(self, Verb::Map),
+            Switch::Progress => !matches!(self, Verb::Header | Verb::Play),
             Switch::Help => true,
             Switch::Version => false,
         }
     }
 }
 
-impl Switch {
-    /// The word for it.
-    pub fn word(self) -> &'static str
-        ensures { result.now ≡ switch_word self }
-    {
+impl Word for Switch {
+    ghost spelled = { switch_word };
+
+    fn word(self) -> &'static str {
         match self {
             Switch::Fasb => "--fasb",
             Switch::Checksum => "--checksum",
@@ -124,22 +125,17 @@ impl Switch {
             Switch::Version => "--version",
         }
     }
+}
 
+impl Switch {
     /// The option that this word names.
     pub fn named(word: &str) -> Option<Switch>
         ensures { SwitchNamed word.now result }
     {
-        match word {
-            "--fasb" => Some(Switch::Fasb),
-            "--checksum" => Some(Switch::Checksum),
-            "--service" => Some(Switch::Service),
-            "--json" => Some(Switch::Json),
-            "-o" => Some(Switch::Out),
-            "--progress" => Some(Switch::Progress),
-            "--help" | "-h" => Some(Switch::Help),
-            "--version" => Some(Switch::Version),
-            _ => None,
+        if word == "-h" {
+            return Some(Switch::Help);
         }
+        with_word(&SWITCHES, word)
     }
 
     /// The values that it takes, in words.

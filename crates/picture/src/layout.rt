@@ -1,8 +1,9 @@
 //! Where the rows of the picture stand.
 use reel::blocks::Blocks;
+use reel::counting::survey;
 
 /// How the rows are laid out on the page.
-#[derive(Clone, Copy)]
+#[derive(Clone, Copy, PartialEq, Eq, Debug)]
 pub struct Layout {
     /// The size of a cell.
     pub cell: u64,
@@ -24,19 +25,14 @@ pub const TOP: u64 = 112;
 
 /// The size of a cell at which so many cells make a page of about 1,200 by 1,000.
 fn cell_size(cells: u64) -> u64 {
-    if cells <= 4_000 {
-        return 16;
+    match cells {
+        0..=4_000 => 16,
+        4_001..=12_000 => 10,
+        12_001..=30_000 => 6,
+        30_001..=70_000 => 4,
+        70_001..=150_000 => 3,
+        _ => 2,
     }
-    if cells <= 12_000 {
-        return 10;
-    }
-    if cells <= 30_000 {
-        return 6;
-    }
-    if cells <= 70_000 {
-        return 4;
-    }
-    if cells <= 150_000 { 3 } else { 2 }
 }
 
 /// The width of one column of rows, the numbers at its left included.
@@ -48,6 +44,7 @@ fn column_width(cell: u64, widest: u64) -> u64 {
 fn columns_for(superframes: u64, cell: u64, widest: u64) -> u64 {
     let height = superframes.saturating_mul(cell);
     let width = column_width(cell, widest);
+    // A closure of `find` would not know that the number it divides by is not 0.
     for columns in 1..40u64 {
         if height / columns <= width.saturating_mul(columns) || height / columns <= 640 {
             return columns;
@@ -61,30 +58,23 @@ impl Layout {
     pub fn of(superframes: u64, widest: u64) -> Layout {
         let cell = cell_size(superframes.saturating_mul(widest));
         let columns = columns_for(superframes, cell, widest).max(1);
-        let rows = (superframes / columns).saturating_add(if superframes % columns == 0 {
-            0
-        } else {
-            1
-        });
         Layout {
             cell,
             widest,
-            rows: rows.max(1),
+            rows: superframes.div_ceil(columns).max(1),
             columns,
         }
     }
 
     /// The layout for a reel, up to its first fault.
     pub fn for_reel(reel: &[u8]) -> Layout {
-        let mut superframes = 0u64;
-        let mut widest = 1u64;
-        for found in Blocks::of(reel) {
-            if let Ok(block) = found {
-                superframes = superframes.saturating_add(1);
-                widest = widest.max(u64::from(block.size));
-            }
-        }
-        Layout::of(superframes, widest)
+        let superframes = survey(reel).contents.superframes;
+        let widest = Blocks::of(reel)
+            .map_while(Result::ok)
+            .map(|block| block.size)
+            .max()
+            .unwrap_or(1);
+        Layout::of(superframes as u64, u64::from(widest))
     }
 
     /// The width of the page; the title and the legend want some width, too.
@@ -122,8 +112,7 @@ impl Layout {
         match self.cell {
             16 => 1,
             10 => 5,
-            6 => 10,
-            4 => 10,
+            4 | 6 => 10,
             3 => 20,
             _ => 25,
         }

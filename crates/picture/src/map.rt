@@ -1,16 +1,19 @@
 //! A picture of a reel: a row a superframe, a cell a frame.
+ghost use Rattle.std.specs.Prelude.{IfOk};
+ghost use Rattle.report.specs.Complete.{ComesTo};
+
 use crate::layout::{Layout, MARGIN, TOP};
 use reel::block::Block;
 use reel::slots::Recorded;
 use report::entry::Entry;
-use report::settings::Settings;
+use report::source::Source;
 use report::visit::{Outcome, Progress, Silent, Visitor};
 use report::walk::walk;
 use std::fmt;
 use std::fmt::Write;
 
 /// What a frame is.
-#[derive(Clone, Copy, PartialEq, Eq)]
+#[derive(Clone, Copy, PartialEq, Eq, Debug)]
 pub enum Cell {
     /// The superframe has no such frame.
     Absent,
@@ -21,8 +24,69 @@ pub enum Cell {
     Torn,
 }
 
+impl Cell {
+    /// The class of the cell in the picture's style sheet.
+    fn class(self) -> &'static str {
+        match self {
+            Cell::Whole => "w",
+            Cell::Padding => "p",
+            Cell::Lost => "l",
+            Cell::Torn => "t",
+            Cell::Absent => "a",
+        }
+    }
+}
+
+/// What the bytes of a frame say it is, torn frames aside: one that begins with padding is padding only.
+impl From<Recorded<'_>> for Cell {
+    fn from(recorded: Recorded<'_>) -> Cell {
+        match recorded {
+            Recorded::Gap => Cell::Lost,
+            Recorded::Frame([0x7F, ..]) => Cell::Padding,
+            Recorded::Frame(_) => Cell::Whole,
+        }
+    }
+}
+
+/// One row of cells, those of a superframe. It ends with absent cells where the superframe has fewer than 200 frames, so that each
+/// number of a torn frame names a cell of every row.
+#[derive(Clone, Copy, PartialEq, Eq, Debug)]
+pub struct Row([Cell; 200]);
+
+impl Row {
+    /// The row of no superframe.
+    fn empty() -> Row {
+        Row([Cell::Absent; 200])
+    }
+
+    /// The row of a block, torn frames aside.
+    fn of(block: Block<'_>) -> Row {
+        let mut row = Row::empty();
+        for (cell, recorded) in row.0.iter_mut().zip(block.slots()) {
+            *cell = Cell::from(recorded);
+        }
+        row
+    }
+
+    /// Takes up what an entry says of the row: a torn frame is named by its number.
+    fn note(&mut self, entry: Entry) {
+        if let Entry::Torn {
+            frame: number @ 1..=200,
+            ..
+        } = entry
+        {
+            self.0[usize::from(number) - 1] = Cell::Torn;
+        }
+    }
+
+    /// How many frames are padding only and not torn.
+    fn padding_count(&self) -> usize {
+        self.0.iter().filter(|cell| **cell == Cell::Padding).count()
+    }
+}
+
 /// Text inside the picture: what XML reads otherwise is written by its name.
-#[derive(Clone, Copy)]
+#[derive(Clone, Copy, PartialEq, Eq, Debug)]
 pub struct XmlText<'a>(pub &'a str);
 
 impl fmt::Display for XmlText<'_> {
@@ -41,19 +105,8 @@ impl fmt::Display for XmlText<'_> {
     }
 }
 
-/// The class of a cell in the picture's style sheet.
-fn class_of(cell: Cell) -> &'static str {
-    match cell {
-        Cell::Whole => "w",
-        Cell::Padding => "p",
-        Cell::Lost => "l",
-        Cell::Torn => "t",
-        Cell::Absent => "a",
-    }
-}
-
 /// The title and the legend, above the rows.
-#[derive(Clone, Copy)]
+#[derive(Clone, Copy, PartialEq, Eq, Debug)]
 pub struct MapHead<'a> {
     pub name: &'a str,
     pub layout: Layout,
@@ -70,25 +123,25 @@ text{font-family:Helvetica,Arial,sans-serif;fill:#22313f}
 </style>
 ";
 
-/// Writes one part of the legend.
+/// Writes the legend: how many frames there are of each kind, side by side.
 fn write_legend<W: fmt::Write>(
     f: &mut fmt::Formatter<W>,
-    place: u64,
-    cell: Cell,
-    word: &str,
-    number: u128,
+    kinds: [(Cell, &str, u128); 4],
 ) -> fmt::Result {
-    let class = class_of(cell);
-    let left = MARGIN.saturating_add(place.saturating_mul(175));
-    let text = left.saturating_add(20);
-    writeln!(
-        f,
-        "<rect class=\"{class}\" x=\"{left}\" y=\"70\" width=\"14\" height=\"14\"/>"
-    )?;
-    writeln!(
-        f,
-        "<text x=\"{text}\" y=\"82\" font-size=\"13\">{word}: {number}</text>"
-    )
+    for (place, (cell, word, number)) in (0u64..).zip(kinds) {
+        let class = cell.class();
+        let left = MARGIN.saturating_add(place.saturating_mul(175));
+        let text = left.saturating_add(20);
+        writeln!(
+            f,
+            "<rect class=\"{class}\" x=\"{left}\" y=\"70\" width=\"14\" height=\"14\"/>"
+        )?;
+        writeln!(
+            f,
+            "<text x=\"{text}\" y=\"82\" font-size=\"13\">{word}: {number}</text>"
+        )?;
+    }
+    Ok(())
 }
 
 impl fmt::Display for MapHead<'_> {
@@ -100,7 +153,6 @@ impl fmt::Display for MapHead<'_> {
         let superframes = contents.superframes;
         let frames = self.outcome.frames();
         let whole = self.outcome.whole().saturating_sub(self.padding);
-        let lost = contents.gaps;
         let torn = self.outcome.totals.torn;
         write!(
             f,
@@ -124,96 +176,106 @@ impl fmt::Display for MapHead<'_> {
             f,
             " a row a superframe, a cell a frame, in reading order</text>"
         )?;
-        write_legend(f, 0, Cell::Whole, "whole", u128::from(whole))?;
-        write_legend(
-            f,
-            1,
-            Cell::Padding,
-            "padding only",
-            u128::from(self.padding),
-        )?;
-        write_legend(f, 2, Cell::Lost, "lost", lost)?;
-        write_legend(f, 3, Cell::Torn, "torn", u128::from(torn))
+        let kinds = [
+            (Cell::Whole, "whole", u128::from(whole)),
+            (Cell::Padding, "padding only", u128::from(self.padding)),
+            (Cell::Lost, "lost", contents.gaps),
+            (Cell::Torn, "torn", u128::from(torn)),
+        ];
+        write_legend(f, kinds)
     }
 }
 
-/// One row of cells.
-pub type Row = [Cell; 200];
-
-/// What the bytes of a frame say it is, torn frames aside: one that begins with padding is padding only.
-fn cell_of(recorded: Recorded<'_>) -> Cell {
-    match recorded {
-        Recorded::Gap => Cell::Lost,
-        Recorded::Frame(bytes) => match bytes.first().copied() {
-            Some(0x7F) => Cell::Padding,
-            _ => Cell::Whole,
-        },
-    }
+/// What is to be done with the row of each superframe. It is no closure: what is drawn holds a reference, and that it may always be
+/// called cannot be asked of a closure there.
+trait EachRow {
+    /// The superframe of this row has ended, the one of this number, counted from 1.
+    fn row(&mut self, number: u64, row: Row) -> fmt::Result;
 }
 
-/// The row of a block, torn frames aside.
-fn row_of(block: Block<'_>) -> Row {
-    let mut row = [Cell::Absent; 200];
-    let mut at = 0;
-    for recorded in block.slots() {
-        if at < 200 {
-            row[at] = cell_of(recorded);
-            at += 1;
+/// Gathers the row of each superframe, and hands it on where the superframe ends.
+#[derive(Drop)]
+struct Rows<R> {
+    number: u64,
+    row: Row,
+    each: R,
+}
+
+impl<R> Rows<R> {
+    /// The rows of a reel, each for this.
+    fn of(each: R) -> Rows<R> {
+        Rows {
+            number: 0,
+            row: Row::empty(),
+            each,
         }
     }
-    row
 }
 
-/// The row with what an entry says of it: a torn frame is named by its number.
-fn with_entry(mut row: Row, entry: Entry) -> Row {
-    if let Entry::Torn { frame, .. } = entry {
-        let number = usize::from(frame);
-        if 1 <= number && number <= 200 {
-            row[number - 1] = Cell::Torn;
-        }
+impl<R: EachRow> Visitor for Rows<R> {
+    fn superframe(&mut self, number: u64, block: Block<'_>) -> fmt::Result {
+        self.number = number;
+        self.row = Row::of(block);
+        Ok(())
     }
-    row
+
+    fn entry(&mut self, entry: Entry, _packet: &[u8]) -> fmt::Result {
+        self.row.note(entry);
+        Ok(())
+    }
+
+    fn superframe_end(&mut self) -> fmt::Result {
+        self.each.row(self.number, self.row)
+    }
+}
+
+/// How many frames are padding only and not torn.
+#[derive(Clone, Copy)]
+struct PaddingCount(u64);
+
+impl EachRow for PaddingCount {
+    fn row(&mut self, _number: u64, row: Row) -> fmt::Result {
+        self.0 = self.0.saturating_add(row.padding_count() as u64);
+        Ok(())
+    }
 }
 
 /// The rows of the picture. Cells of one kind side by side are drawn as one.
 #[derive(Drop)]
-pub struct MapRows<'a, O> {
-    pub out: &'a mut O,
-    pub layout: Layout,
-    /// Which row is drawn next, counted from 0.
-    pub number: u64,
-    pub row: Row,
+struct Drawing<'a, O> {
+    out: &'a mut O,
+    layout: Layout,
 }
 
-impl<O: fmt::Write> MapRows<'_, O> {
-    /// Draws cells from one place up to another.
-    fn draw(&mut self, from: u64, to: u64, cell: Cell) -> fmt::Result {
-        let class = class_of(cell);
+impl<O: fmt::Write> Drawing<'_, O> {
+    /// Draws cells of this row, counted from 0, from one place up to another.
+    fn draw(&mut self, row: u64, from: u64, to: u64, cell: Cell) -> fmt::Result {
+        let class = cell.class();
         let size = self.layout.cell;
         let left = self
             .layout
-            .left(self.number)
+            .left(row)
             .saturating_add(from.saturating_mul(size));
-        let top = self.layout.top(self.number);
+        let top = self.layout.top(row);
         let width = to.saturating_sub(from).saturating_mul(size);
         let height = if size > 3 { size - 1 } else { size };
         write!(self.out, "<rect class=\"{class}\" x=\"{left}\" y=\"{top}\"")?;
         writeln!(self.out, " width=\"{width}\" height=\"{height}\"/>")
     }
 
-    /// Writes the number of the row, if it is one of those that have theirs.
-    fn draw_number(&mut self) -> fmt::Result {
-        let number = self.number.saturating_add(1);
+    /// Writes the number of this row, counted from 0, if it is one of those that have theirs.
+    fn draw_number(&mut self, row: u64) -> fmt::Result {
+        let number = row.saturating_add(1);
         let step = self.layout.number_step().max(1);
-        let in_column = self.number % self.layout.rows.max(1);
+        let in_column = row % self.layout.rows.max(1);
         let crowded = in_column.saturating_mul(self.layout.cell) < 12;
         if in_column != 0 && (number % step != 0 || crowded) {
             return Ok(());
         }
-        let left = self.layout.left(self.number).saturating_sub(6);
+        let left = self.layout.left(row).saturating_sub(6);
         let top = self
             .layout
-            .top(self.number)
+            .top(row)
             .saturating_add(self.layout.cell / 2)
             .saturating_add(4);
         writeln!(
@@ -221,75 +283,29 @@ impl<O: fmt::Write> MapRows<'_, O> {
             "<text class=\"n\" x=\"{left}\" y=\"{top}\">{number}</text>"
         )
     }
+}
 
-    /// Draws the row.
-    fn draw_row(&mut self) -> fmt::Result {
-        let row = self.row;
+impl<O: fmt::Write> EachRow for Drawing<'_, O> {
+    fn row(&mut self, number: u64, row: Row) -> fmt::Result {
+        let place = number.saturating_sub(1);
+        self.draw_number(place)?;
+        // Where a run stands is what the runs before it are long: `scan` would say that no plainer.
         let mut from = 0u64;
-        let mut cell = row[0];
-        for at in 1..201 {
-            let next = if at < 200 { row[at] } else { Cell::Absent };
-            if next != cell {
-                if cell != Cell::Absent {
-                    self.draw(from, at as u64, cell)?;
-                }
-                from = at as u64;
-                cell = next;
+        for run in row.0.chunk_by(|cell, next| cell == next) {
+            let to = from.saturating_add(run.len() as u64);
+            if let [cell, ..] = run
+                && *cell != Cell::Absent
+            {
+                self.draw(place, from, to, *cell)?;
             }
-        }
-        Ok(())
-    }
-}
-
-impl<O: fmt::Write> Visitor for MapRows<'_, O> {
-    fn superframe(&mut self, _number: u64, block: Block<'_>) -> fmt::Result {
-        self.row = row_of(block);
-        Ok(())
-    }
-
-    fn entry(&mut self, entry: Entry, _packet: &[u8]) -> fmt::Result {
-        self.row = with_entry(self.row, entry);
-        Ok(())
-    }
-
-    fn superframe_end(&mut self) -> fmt::Result {
-        self.draw_number()?;
-        self.draw_row()?;
-        self.number = self.number.saturating_add(1);
-        Ok(())
-    }
-}
-
-/// Counts the frames that are padding only and not torn.
-#[derive(Drop)]
-pub struct PaddingCount {
-    pub number: u64,
-    pub row: Row,
-}
-
-impl Visitor for PaddingCount {
-    fn superframe(&mut self, _number: u64, block: Block<'_>) -> fmt::Result {
-        self.row = row_of(block);
-        Ok(())
-    }
-
-    fn entry(&mut self, entry: Entry, _packet: &[u8]) -> fmt::Result {
-        self.row = with_entry(self.row, entry);
-        Ok(())
-    }
-
-    fn superframe_end(&mut self) -> fmt::Result {
-        for cell in self.row {
-            if cell == Cell::Padding {
-                self.number = self.number.saturating_add(1);
-            }
+            from = to;
         }
         Ok(())
     }
 }
 
 /// Lines between the cells of all rows, where cells are large enough for it.
-#[derive(Clone, Copy)]
+#[derive(Clone, Copy, PartialEq, Eq, Debug)]
 pub struct Grid(pub Layout);
 
 /// Writes the lines of one column of rows.
@@ -320,34 +336,27 @@ impl fmt::Display for Grid {
 
 /// Draws a reel.
 pub fn draw<O: fmt::Write, P: Progress>(
-    name: &str,
-    reel: &[u8],
-    settings: Settings,
+    source: Source<'_>,
     out: &mut O,
     progress: &mut P,
-) -> Result<Outcome, fmt::Error> {
-    let layout = Layout::for_reel(reel);
-    let mut counting = PaddingCount {
-        number: 0,
-        row: [Cell::Absent; 200],
-    };
-    let counted = walk(reel, settings, &mut counting, &mut Silent)?;
+) -> Result<Outcome, fmt::Error>
+    ensures { IfOk result (ComesTo source.entry.settings source.entry.reel.now) }
+{
+    let layout = Layout::for_reel(source.reel);
+    let mut counting = Rows::of(PaddingCount(0));
+    let counted = walk(source.reel, source.settings, &mut counting, &mut Silent)?;
     out.write(MapHead {
-        name,
+        name: source.name,
         layout,
         outcome: counted,
-        padding: counting.number,
+        padding: counting.each.0,
     })?;
-    let mut rows = MapRows {
-        out,
-        layout,
-        number: 0,
-        row: [Cell::Absent; 200],
-    };
-    let outcome = walk(reel, settings, &mut rows, progress)?;
+    let mut rows = Rows::of(Drawing { out, layout });
+    let outcome = walk(source.reel, source.settings, &mut rows, progress)?;
+    let out = rows.each.out;
     if layout.cell >= 10 {
-        rows.out.write(Grid(layout))?;
+        out.write(Grid(layout))?;
     }
-    rows.out.write_str("</svg>\n")?;
+    out.write_str("</svg>\n")?;
     Ok(outcome)
 }

@@ -1,5 +1,6 @@
 -- Each reading is one of the answers that are owed, and where it answers nothing, none is.
 use Rattle.std.proofs.Common.{◌≡◌, ℕ, suc, Bool, true, false, List, [], ◌∷◌, ◌++◌, map, length, Some, None, Option, sym, refl, ap, ◌∙◌, ap₂, arith}
+use Rattle.checksum.specs.Choosing.{width_by, value_by}
 use Rattle.framing.specs.declared.slot.Slot.{Slot}
 use Rattle.framing.specs.declared.slot.Slot.TheVariants.{Frame, Gap, Mark}
 use Rattle.framing.specs.Fragments.{Fragment, fragments}
@@ -9,18 +10,22 @@ use Rattle.receiver.specs.Answering as answers
 use Rattle.receiver.specs.Folding.{given}
 use Rattle.receiver.specs.Reading as rules
 use Rattle.receiver.specs.Reading.{Standing, Told, packet, completes, after_all, after_frame, told_of, told_of_frame, verdict_on, next_number, first_completed, Outcome, or_on, of_frame, reading_slots, reading, owed}
-use Rattle.receiver.specs.Readings.{Reads, Side, said}
+use Rattle.receiver.specs.Readings.{Reads, side, said}
+use Rattle.receiver.specs.Views.{view}
+use Rattle.receiver.specs.declared.reader.Reader as receivers
 use Rattle.receiver.specs.declared.answer.Reading.{Reading}
 use Rattle.receiver.specs.declared.answer.Reading.TheVariants as readings
 use Rattle.receiver.proofs.Folds.{Splits, splits, answers_first}
 use Rattle.receiver.proofs.Slots.{passes}
-use Rattle.report.specs.declared.settings.Settings.{Settings}
-use Rattle.report.specs.declared.settings.ServiceChoice.{ServiceChoice}
+use Rattle.reel.specs.Playing.{waiting_slots}
+use Rattle.reel.specs.declared.playing.ReelChannel.{ReelChannel}
+use Rattle.service.specs.Choosing.{refuses_by}
+use Rattle.service.specs.declared.choice.ServiceChoice.{ServiceChoice}
 use Rattle.report.specs.declared.totals.Totals.{Totals}
+use Rattle.report.specs.declared.walk.ReelWalk.{ReelWalk}
 use Rattle.report.specs.declared.walk.Until.{Until}
-use Rattle.report.specs.declared.walk.Until.TheVariants as until
-use Rattle.report.specs.Settings.{width_of, value_of, refuses_by}
-use Rattle.report.specs.Walking.{tallied_answer, tallied_all, owed_by, Passed, is_the_last}
+use Rattle.report.specs.declared.walk.Until.TheVariants as to
+use Rattle.report.specs.Walking.{tallied_answer, tallied_all, owed_by, with_answer, Passed, is_the_last}
 
 -- 1. Where a reading tells nothing, nothing is owed.
 
@@ -29,7 +34,7 @@ none_or : (r : Standing) (fs : List Fragment) (n : ℕ) (later : Outcome) (rest 
     → (or_on (record { found = found; standing = st; unread = un }) n later).told ≡ None → map packet (completes r fs) ++ rest ≡ []
 none_or r fs n later rest None st un s all behind none =
     ap₂ (λ (ps : List (List ℕ)) (l : List Told). map packet ps ++ l) (s.packets ∙ ap (completes st) (all refl)) (behind none)
-none_or r fs n later rest (Some p) st un s all behind none = let z : ◌≡◌ {A = ℕ} 0 1 = cc in absurd (omega arith)
+none_or r fs n later rest (Some p) st un s all behind none = cc
 
 none_through : (r : Standing) (fs : List Fragment) (n : ℕ) (later : Outcome) (rest : List Told) → (later.told ≡ None → rest ≡ [])
     → (or_on (first_completed r fs) n later).told ≡ None → map packet (completes r fs) ++ rest ≡ []
@@ -41,12 +46,12 @@ none_frame : (fasb : Bool) (width : ℕ) (v : Verdict) (r : Standing) (n : ℕ) 
     → (later.told ≡ None → told_of fasb width (after_all r fs) n rest ≡ [])
     → (of_frame v r n fs later).told ≡ None → told_of_frame v n r fs ++ told_of fasb width (after_frame v r fs) n rest ≡ []
 none_frame fasb width lawful r n fs later rest behind none = none_through r fs n later (told_of fasb width (after_all r fs) n rest) behind none
-none_frame fasb width (torn q p) r n fs later rest behind none = let z : ◌≡◌ {A = ℕ} 0 1 = cc in absurd (omega arith)
+none_frame fasb width (torn q p) r n fs later rest behind none = cc
 
 none_slots : (fasb : Bool) (width : ℕ) (r : Standing) (n : ℕ) (slots : List Slot) → (reading_slots fasb width r n slots).told ≡ None → told_of fasb width r n slots ≡ []
 none_slots fasb width r n [] none = refl
-none_slots fasb width r n (Mark ∷ rest) none = let z : ◌≡◌ {A = ℕ} 0 1 = cc in absurd (omega arith)
-none_slots fasb width r n (Gap ∷ rest) none = let z : ◌≡◌ {A = ℕ} 0 1 = cc in absurd (omega arith)
+none_slots fasb width r n (Mark ∷ rest) none = cc
+none_slots fasb width r n (Gap ∷ rest) none = cc
 none_slots fasb width r n (Frame f ∷ rest) none =
     let fs = fragments f.bytes in
     none_frame fasb width (verdict_on width r f.bytes) r (next_number n) fs (reading_slots fasb width (after_all r fs) (next_number n) rest) rest
@@ -86,40 +91,38 @@ one_given (readings.Torn frame dropped why) buffer rest not = refl
 one_given (readings.Mark dropped) buffer rest not = refl
 one_given readings.Nothing buffer rest not = absurd (not refl)
 
-pub reads_one : (s : Settings) (a : Reading) (before after : Side) (t u : Totals)
-    → Reads s.fasb (width_of s.checksum) (value_of s.checksum) (refuses_by s.service) before a after
-    → u ≡ tallied_answer s.service t (said a after.buffer)
-    → Passed s.service a t (owed_by s before.reader before.waiting) u (owed_by s after.reader after.waiting)
-reads_one s a before after t u reads counts =
-    let left : List Answer = owed_by s after.reader after.waiting in
+-- A reader and a channel that stand as a reading leaves them, and the totals with its answer: that walk has passed the reading.
+pub reads_one : (w : ReelWalk) (r : receivers.Reader) (c : ReelChannel) (a : Reading) (old new : List ℕ)
+    → Reads w.settings.fasb (width_by w.settings.checksum) (value_by w.settings.checksum) (refuses_by w.settings.service)
+    (side (view w.reader) (waiting_slots w.channel) old) a (side (view r) (waiting_slots c) new)
+    → Passed a w (with_answer (record w { reader = r; channel = c }) (said a new))
+reads_one w r c a old new reads =
+    let s = w.settings in
+    let left : List Answer = owed_by s (view r) (waiting_slots c) in
     record {
-      counted =
-          ap (λ (x : Totals). tallied_all s.service x left) counts
-          ∙ tallied_first s.service t (said a after.buffer) left
-          ∙ ap (tallied_all s.service t) (sym reads.folds);
+      counted = tallied_first s.service w.totals (said a new) left ∙ ap (tallied_all s.service w.totals) (sym reads.folds);
       falls = λ not.
-          let long = ap length reads.folds ∙ one_given a after.buffer left not in
+          let long = ap length reads.folds ∙ one_given a new left not in
           omega arith;
       out = λ is.
-          let quiet : said a after.buffer ≡ nothing = ap (λ (x : Reading). said x after.buffer) is in
-          let told = none_told (width_of s.checksum) (value_of s.checksum) (refuses_by s.service) (reading s.fasb (width_of s.checksum) before.reader before.waiting).told (sym reads.answers ∙ quiet) in
-          let none = none_owed s.fasb (width_of s.checksum) before.reader before.waiting told in
+          let quiet : said a new ≡ nothing = ap (λ (x : Reading). said x new) is in
+          let told = none_told (width_by s.checksum) (value_by s.checksum) (refuses_by s.service) (reading s.fasb (width_by s.checksum) (view w.reader) (waiting_slots w.channel)).told (sym reads.answers ∙ quiet) in
+          let none = none_owed s.fasb (width_by s.checksum) (view w.reader) (waiting_slots w.channel) told in
           sym (reads.folds ∙ ap (λ (x : Answer). given x ++ left) quiet)
-          ∙ ap (map (λ (x : Told). answer_to (width_of s.checksum) (value_of s.checksum) (refuses_by s.service) (Some x))) none;
+          ∙ ap (map (λ (x : Told). answer_to (width_by s.checksum) (value_by s.checksum) (refuses_by s.service) (Some x))) none;
     }
 
 -- 3. The last reading of a walk.
 
 pub not_last : (u : Until) (a : Reading) → is_the_last u a ≡ false → a ≡ readings.Nothing → ⊥
-not_last until.Mark a goes_on is = let z : ◌≡◌ {A = Bool} true false = sym (ap (is_the_last until.Mark) is) ∙ goes_on in let y : ◌≡◌ {A = ℕ} 0 1 = cc in omega arith
-not_last until.End a goes_on is = let z : ◌≡◌ {A = Bool} true false = sym (ap (is_the_last until.End) is) ∙ goes_on in let y : ◌≡◌ {A = ℕ} 0 1 = cc in omega arith
+not_last u a goes_on is = let z : ◌≡◌ {A = Bool} true false = sym (ap (is_the_last u) is) ∙ goes_on in cc
 
-pub last_of_all : (a : Reading) → is_the_last until.End a ≡ true → a ≡ readings.Nothing
-last_of_all (readings.Sound len) last = let z : ◌≡◌ {A = ℕ} 0 1 = cc in absurd (omega arith)
-last_of_all (readings.Damaged len) last = let z : ◌≡◌ {A = ℕ} 0 1 = cc in absurd (omega arith)
-last_of_all (readings.Foreign number len) last = let z : ◌≡◌ {A = ℕ} 0 1 = cc in absurd (omega arith)
-last_of_all readings.Short last = let z : ◌≡◌ {A = ℕ} 0 1 = cc in absurd (omega arith)
-last_of_all (readings.Lost frame dropped) last = let z : ◌≡◌ {A = ℕ} 0 1 = cc in absurd (omega arith)
-last_of_all (readings.Torn frame dropped why) last = let z : ◌≡◌ {A = ℕ} 0 1 = cc in absurd (omega arith)
-last_of_all (readings.Mark dropped) last = let z : ◌≡◌ {A = ℕ} 0 1 = cc in absurd (omega arith)
+pub last_of_all : (a : Reading) → is_the_last to.End a ≡ true → a ≡ readings.Nothing
+last_of_all (readings.Sound len) last = cc
+last_of_all (readings.Damaged len) last = cc
+last_of_all (readings.Foreign number len) last = cc
+last_of_all readings.Short last = cc
+last_of_all (readings.Lost frame dropped) last = cc
+last_of_all (readings.Torn frame dropped why) last = cc
+last_of_all (readings.Mark dropped) last = cc
 last_of_all readings.Nothing last = refl

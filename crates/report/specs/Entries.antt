@@ -8,8 +8,8 @@ use Rattle.report.specs.declared.entry.Entry.{Entry}
 use Rattle.report.specs.declared.entry.Entry.TheVariants.{Packet as handedOut, Short as shortPacket, Lost as lostFrame, Torn as tornFrame, Unfinished}
 use Rattle.report.specs.declared.entry.Verdict.{Verdict}
 use Rattle.report.specs.declared.entry.Verdict.TheVariants.{Sound as sound, Damaged as damaged, Foreign as foreign}
-use Rattle.report.specs.declared.settings.ServiceChoice.{ServiceChoice}
-use Rattle.report.specs.declared.settings.ServiceChoice.TheVariants.{Plain, Sync}
+use Rattle.service.specs.declared.choice.ServiceChoice.{ServiceChoice}
+use Rattle.service.specs.declared.choice.ServiceChoice.TheVariants.{Plain, Sync}
 
 -- the header of a packet that can be read
 abbrev pub header_read : Result (SyncHeader × List ℕ) ℕ → Option SyncHeader

@@ -1,4 +1,3 @@
-pub mod Settings
 pub mod Words
 pub mod Names
 pub mod Tallies

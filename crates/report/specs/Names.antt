@@ -1,16 +1,15 @@
 -- The names of extracted files.
-use Rattle.std.specs.Prelude.{ℕ, cond, List, ◌++◌, Some, None, codes, decimal, Option, nat_lt}
+use Rattle.std.specs.Prelude.{ℕ, ◌-◌, List, ◌++◌, length, replicate, Some, None, codes, decimal, Option}
+use Rattle.service.specs.Words.{word_of_kind}
 use Rattle.service.specs.declared.header.SyncHeader.{SyncHeader}
 use Rattle.report.specs.declared.entry.Verdict.{Verdict}
 use Rattle.report.specs.declared.entry.Verdict.TheVariants.{Sound, Damaged, Foreign}
 use Rattle.report.specs.declared.entry.Packet.{Packet}
-use Rattle.report.specs.Words.{word_of_kind, word_of_verdict}
+use Rattle.report.specs.Words.{word_of_verdict}
 
 -- the zeros that make a number six digits long
 abbrev pub zeros : ℕ → List ℕ
-zeros n =
-    cond (nat_lt n 10) (codes "00000")
-    (cond (nat_lt n 100) (codes "0000") (cond (nat_lt n 1000) (codes "000") (cond (nat_lt n 10000) (codes "00") (cond (nat_lt n 100000) (codes "0") (codes "")))))
+zeros n = replicate (6 - length (decimal n)) 48
 
 abbrev pub order_name : ℕ → List ℕ
 order_name n = zeros n ++ decimal n

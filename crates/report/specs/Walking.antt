@@ -1,25 +1,25 @@
 -- What all answers of a reel come to.
 use Rattle.std.specs.Prelude.{◌≡◌, ℕ, ◌<◌, Bool, true, false, cond, List, [], ◌∷◌, length, ◌≢◌, nat_lt}
+use Rattle.checksum.specs.Choosing.{width_by, value_by}
 use Rattle.framing.specs.declared.slot.Slot.{Slot}
 use Rattle.receiver.specs.Answering.{Answer, Quality, sound, damaged, foreign, handed_out, short, lost, torn, mark, nothing}
 use Rattle.receiver.specs.Folding.{answers_owed}
 use Rattle.receiver.specs.Reading.{Reader}
 use Rattle.receiver.specs.Views.{view}
-use Rattle.receiver.specs.declared.reader.Reader as receivers
 use Rattle.receiver.specs.declared.answer.Reading.{Reading}
 use Rattle.receiver.specs.declared.answer.Reading.TheVariants as readings
 use Rattle.reel.specs.Playing.{waiting_slots}
-use Rattle.reel.specs.declared.playing.ReelChannel.{ReelChannel}
+use Rattle.service.specs.Choosing.{refuses_by}
+use Rattle.service.specs.declared.choice.ServiceChoice.{ServiceChoice}
 use Rattle.report.specs.declared.entry.Entry.TheVariants.{Short, Lost, Unfinished}
 use Rattle.report.specs.declared.entry.Verdict.{Verdict}
 use Rattle.report.specs.declared.entry.Verdict.TheVariants.{Sound, Damaged, Foreign}
 use Rattle.report.specs.declared.settings.Settings.{Settings}
-use Rattle.report.specs.declared.settings.ServiceChoice.{ServiceChoice}
 use Rattle.report.specs.declared.totals.Totals.{Totals}
+use Rattle.report.specs.declared.walk.ReelWalk.{ReelWalk}
 use Rattle.report.specs.declared.walk.Until.{Until}
-use Rattle.report.specs.declared.walk.Until.TheVariants as until
+use Rattle.report.specs.declared.walk.Until.TheVariants as to
 use Rattle.report.specs.Entries.{header_in}
-use Rattle.report.specs.Settings.{width_of, value_of, refuses_by}
 use Rattle.report.specs.Tallies.{counting_packet, with_torn, tallied}
 
 abbrev pub verdict_of : Quality → Verdict
@@ -48,37 +48,28 @@ tallied_all service t (answer ∷ rest) = tallied_all service (tallied_answer se
 
 -- the answers that the rules still owe to a reader under these settings, where these slots wait
 abbrev pub owed_by : Settings → Reader → List Slot → List Answer
-owed_by s reader slots = answers_owed s.fasb (width_of s.checksum) (value_of s.checksum) (refuses_by s.service) reader slots
+owed_by s reader slots = answers_owed s.fasb (width_by s.checksum) (value_by s.checksum) (refuses_by s.service) reader slots
 
--- the answers that are still owed to this reader of this channel
-abbrev pub owed_from : Settings → receivers.Reader → ReelChannel → List Answer
-owed_from s reader channel = owed_by s (view reader) (waiting_slots channel)
+-- the answers that are still owed to a walk
+abbrev pub owed_to : ReelWalk → List Answer
+owed_to w = owed_by w.settings (view w.reader) (waiting_slots w.channel)
 
--- the totals, with all answers that are still owed
-abbrev pub in_all : Settings → Totals → receivers.Reader → ReelChannel → Totals
-in_all s t reader channel = tallied_all s.service t (owed_from s reader channel)
+-- the totals of a walk, with all answers that are still owed
+abbrev pub in_all : ReelWalk → Totals
+in_all w = tallied_all w.settings.service w.totals (owed_to w)
+
+-- a walk whose totals have one answer more
+abbrev pub with_answer : ReelWalk → Answer → ReelWalk
+with_answer w answer = record w { totals = tallied_answer w.settings.service w.totals answer }
 
 -- One reading: with what is still owed, the totals come to the same as before; less is owed, or it answered nothing, and then nothing is owed.
-pub record Passed (service : ServiceChoice) (reading : Reading) (before : Totals) (due : List Answer) (after : Totals) (left : List Answer) : Type 0 where
-  pub counted : tallied_all service after left ≡ tallied_all service before due
-  pub falls : (reading ≢ readings.Nothing) → length left < length due
-  pub out : reading ≡ readings.Nothing → left ≡ []
+pub record Passed (reading : Reading) (before after : ReelWalk) : Type 0 where
+  pub counted : in_all after ≡ in_all before
+  pub falls : (reading ≢ readings.Nothing) → length (owed_to after) < length (owed_to before)
+  pub out : reading ≡ readings.Nothing → owed_to after ≡ []
 
 -- whether a reading is the last of a walk to the next mark, or to the end
 abbrev pub is_the_last : Until → Reading → Bool
-is_the_last until.Mark (readings.Mark dropped) = true
-is_the_last until.Mark readings.Nothing = true
-is_the_last until.Mark (readings.Sound len) = false
-is_the_last until.Mark (readings.Damaged len) = false
-is_the_last until.Mark (readings.Foreign number len) = false
-is_the_last until.Mark readings.Short = false
-is_the_last until.Mark (readings.Lost frame dropped) = false
-is_the_last until.Mark (readings.Torn frame dropped why) = false
-is_the_last until.End (readings.Mark dropped) = false
-is_the_last until.End readings.Nothing = true
-is_the_last until.End (readings.Sound len) = false
-is_the_last until.End (readings.Damaged len) = false
-is_the_last until.End (readings.Foreign number len) = false
-is_the_last until.End readings.Short = false
-is_the_last until.End (readings.Lost frame dropped) = false
-is_the_last until.End (readings.Torn frame dropped why) = false
+is_the_last until readings.Nothing = true
+is_the_last to.Mark (readings.Mark dropped) = true
+is_the_last _ _ = false

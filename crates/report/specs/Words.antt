@@ -1,52 +1,42 @@
 -- The words of the reports.
-use Rattle.std.specs.Prelude.{ℕ, Bool, true, false, List, ◌++◌, Some, None, codes, decimal, Option}
-use Rattle.service.specs.declared.header.Kind.{Kind}
-use Rattle.service.specs.declared.header.Kind.TheVariants.{Video, Audio, TimedData, Adaptation}
+use Rattle.std.specs.Prelude.{ℕ, Bool, true, false, cond, List, ◌++◌, ◌==◌, codes, decimal, Option}
+use Rattle.service.specs.Words.{word_of_kind}
 use Rattle.service.specs.declared.header.SyncHeader.{SyncHeader}
+use Rattle.spelling.specs.Optional.{optional_words}
 use Rattle.report.specs.declared.entry.Verdict.{Verdict}
 use Rattle.report.specs.declared.entry.Verdict.TheVariants.{Sound, Damaged, Foreign}
-use Rattle.report.specs.declared.settings.ChecksumChoice.{ChecksumChoice}
-use Rattle.report.specs.declared.settings.ChecksumChoice.TheVariants.{Without, Crc16}
-use Rattle.report.specs.declared.settings.ServiceChoice.{ServiceChoice}
-use Rattle.report.specs.declared.settings.ServiceChoice.TheVariants.{Plain, Sync}
-
-abbrev pub word_of_kind : Kind → List ℕ
-word_of_kind Video = codes "video"
-word_of_kind Audio = codes "audio"
-word_of_kind TimedData = codes "data"
-word_of_kind Adaptation = codes "adaptation"
 
 abbrev pub word_of_verdict : Verdict → List ℕ
 word_of_verdict Sound = codes "sound"
 word_of_verdict Damaged = codes "damaged"
 word_of_verdict (Foreign number) = codes "foreign"
 
-abbrev pub word_of_checksum : ChecksumChoice → List ℕ
-word_of_checksum Without = codes "none"
-word_of_checksum Crc16 = codes "crc16"
-
-abbrev pub word_of_service : ServiceChoice → List ℕ
-word_of_service Plain = codes "plain"
-word_of_service Sync = codes "sync"
-
 abbrev pub on_or_off : Bool → List ℕ
 on_or_off true = codes "on"
 on_or_off false = codes "off"
 
-abbrev pub yes_or_no : Bool → List ℕ
-yes_or_no true = codes "yes"
-yes_or_no false = codes "no"
-
 abbrev pub count_words : ℕ → List ℕ → List ℕ
 count_words n name = decimal n ++ (codes " " ++ name)
 
+-- so many things, with their name in the singular or the plural
+abbrev pub counted : ℕ → List ℕ → List ℕ → List ℕ
+counted n one many = count_words n (cond (n == 1) one many)
+
+-- as in: superframe 1, at byte 1: 200 frames, 1 gap
+abbrev pub superframe_words : ℕ → ℕ → ℕ → ℕ → List ℕ
+superframe_words number at frames gaps =
+    codes "superframe "
+    ++ (decimal number
+    ++ (codes ", at byte "
+    ++ (decimal at
+    ++ (codes ": "
+    ++ (counted frames (codes "frame") (codes "frames") ++ (codes ", " ++ counted gaps (codes "gap") (codes "gaps")))))))
+
 abbrev pub fact_of_frame : Option ℕ → List ℕ
-fact_of_frame None = codes ""
-fact_of_frame (Some n) = codes ", frame " ++ decimal n
+fact_of_frame id = optional_words decimal (codes ", frame ") id (codes "")
 
 abbrev pub fact_of_time : Option ℕ → List ℕ
-fact_of_time None = codes ""
-fact_of_time (Some n) = codes ", time " ++ decimal n
+fact_of_time time = optional_words decimal (codes ", time ") time (codes "")
 
 abbrev pub fact_of_access : Bool → List ℕ
 fact_of_access true = codes ", access point"

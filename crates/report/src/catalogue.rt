@@ -1,53 +1,31 @@
 //! The catalogue of a reel, from its first line to its last.
-use crate::json::{JsonCatalogue, JsonEnd, JsonHead};
-use crate::settings::Settings;
-use crate::text::{TextCatalogue, TextEnd, TextHead};
-use crate::visit::{Outcome, Progress};
+ghost use Rattle.std.specs.Prelude.{IfOk};
+ghost use Rattle.report.specs.Complete.{ComesTo};
+
+use crate::source::Source;
+use crate::visit::{Outcome, Progress, Visitor};
 use crate::walk::walk;
 use std::fmt;
-use std::fmt::Write;
 
-/// Writes the catalogue of a reel as text.
-pub fn write_text<O: fmt::Write, P: Progress>(
-    name: &str,
-    reel: &[u8],
-    settings: Settings,
-    out: &mut O,
-    progress: &mut P,
-) -> Result<Outcome, fmt::Error> {
-    let size = reel.len();
-    out.write(TextHead {
-        name,
-        size,
-        settings,
-    })?;
-    let mut visitor = TextCatalogue { out };
-    let outcome = walk(reel, settings, &mut visitor, progress)?;
-    let service = settings.service;
-    visitor.out.write(TextEnd { outcome, service })?;
-    Ok(outcome)
+/// A form that a catalogue may have: what it writes of what the reel shows, and before and behind all that.
+pub trait Catalogue: Visitor {
+    /// What stands before the superframes.
+    fn head(&mut self, source: Source<'_>) -> fmt::Result;
+
+    /// What stands behind them: what the whole reel came to.
+    fn end(&mut self, source: Source<'_>, outcome: Outcome) -> fmt::Result;
 }
 
-/// Writes the catalogue of a reel as JSON.
-pub fn write_json<O: fmt::Write, P: Progress>(
-    name: &str,
-    reel: &[u8],
-    settings: Settings,
-    out: &mut O,
+/// Writes the catalogue of a reel in this form.
+pub fn write_catalogue<C: Catalogue, P: Progress>(
+    source: Source<'_>,
+    form: &mut C,
     progress: &mut P,
-) -> Result<Outcome, fmt::Error> {
-    let size = reel.len();
-    out.write(JsonHead {
-        name,
-        size,
-        settings,
-    })?;
-    let mut visitor = JsonCatalogue {
-        out,
-        superframe_before: false,
-        entry_before: false,
-    };
-    let outcome = walk(reel, settings, &mut visitor, progress)?;
-    visitor.out.write(JsonEnd(outcome))?;
+) -> Result<Outcome, fmt::Error>
+    ensures { IfOk result (ComesTo source.entry.settings source.entry.reel.now) }
+{
+    form.head(source)?;
+    let outcome = walk(source.reel, source.settings, form, progress)?;
+    form.end(source, outcome)?;
     Ok(outcome)
 }

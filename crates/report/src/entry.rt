@@ -1,14 +1,14 @@
 ghost use Rattle.std.specs.Prelude.{◌≡◌, take};
 ghost use Rattle.report.specs.Entries.{header_in, packet_shown, entry_of};
 
-use crate::settings::ServiceChoice;
 use framing::fault::Torn;
 use receiver::answer::Reading;
+use service::choice::ServiceChoice;
 use service::header::SyncHeader;
 use service::reading::read_header;
 
 /// What a packet that was handed out is.
-#[derive(Clone, Copy, PartialEq, Eq)]
+#[derive(Clone, Copy, PartialEq, Eq, Debug)]
 pub enum Verdict {
     /// Its checksum fits, and the service admits it.
     Sound,
@@ -19,7 +19,7 @@ pub enum Verdict {
 }
 
 /// A packet that was handed out.
-#[derive(Clone, Copy)]
+#[derive(Clone, Copy, PartialEq, Eq, Debug)]
 pub struct Packet {
     pub len: usize,
     pub verdict: Verdict,
@@ -28,7 +28,7 @@ pub struct Packet {
 }
 
 /// One thing that the reading of a reel shows.
-#[derive(Clone, Copy)]
+#[derive(Clone, Copy, PartialEq, Eq, Debug)]
 pub enum Entry {
     /// A packet was handed out.
     Packet(Packet),
@@ -57,10 +57,7 @@ fn header_of(packet: &[u8], service: ServiceChoice) -> Option<SyncHeader>
 {
     match service {
         ServiceChoice::Plain => None,
-        ServiceChoice::Sync => match read_header(packet) {
-            Ok(read) => Some(read.header),
-            Err(_) => None,
-        },
+        ServiceChoice::Sync => read_header(packet).ok().map(|read| read.header),
     }
 }
 
@@ -68,11 +65,7 @@ fn header_of(packet: &[u8], service: ServiceChoice) -> Option<SyncHeader>
 pub fn front(buffer: &[u8], len: usize) -> &[u8]
     ensures { result.now ≡ take len buffer.now }
 {
-    if len <= buffer.len() {
-        &buffer[0..len]
-    } else {
-        buffer
-    }
+    buffer.get(..len).unwrap_or(buffer)
 }
 
 /// A packet that stands at the front of the buffer.

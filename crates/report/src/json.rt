@@ -1,22 +1,26 @@
-//! The catalogue as JSON: one object, an entry a line.
+//! The catalogue as JSON: one object, an entry a line. It is written by hand and as the reel is read: a JSON library would hold the
+//! whole object before it writes, and would lay it out and escape its strings otherwise.
+ghost use Rattle.std.specs.Prelude.{◌≡◌, false};
+
+use crate::catalogue::Catalogue;
 use crate::entry::{Entry, Packet, Verdict};
-use crate::settings::Settings;
+use crate::source::Source;
 use crate::summary::Summary;
 use crate::text::ForeignReason;
 use crate::totals::Kinds;
 use crate::visit::{Outcome, Visitor};
-use crate::words::{checksum_word, kind_word, service_word, verdict_word};
+use crate::words::or_word;
 use reel::block::Block;
 use service::header::SyncHeader;
 use std::fmt;
 use std::fmt::Write;
 
 /// Text as a JSON string, quotes included.
-#[derive(Clone, Copy)]
+#[derive(Clone, Copy, PartialEq, Eq, Debug)]
 pub struct JsonText<'a>(pub &'a str);
 
 /// One character inside a JSON string.
-#[derive(Clone, Copy)]
+#[derive(Clone, Copy, PartialEq, Eq, Debug)]
 pub struct JsonChar(pub char);
 
 impl fmt::Display for JsonChar {
@@ -43,34 +47,22 @@ impl fmt::Display for JsonText<'_> {
     }
 }
 
-/// A number that may be absent: `null` then.
-#[derive(Clone, Copy)]
-struct JsonNumber(Option<u32>);
-
-impl fmt::Display for JsonNumber {
-    fn fmt<W: fmt::Write>(&self, f: &mut fmt::Formatter<W>) -> fmt::Result {
-        match self.0 {
-            Some(number) => write!(f, "{number}"),
-            None => f.write_str("null"),
-        }
-    }
-}
-
 /// The beginning of the object.
-#[derive(Clone, Copy)]
-pub struct JsonHead<'a> {
-    pub name: &'a str,
-    pub size: usize,
-    pub settings: Settings,
-}
+#[derive(Clone, Copy, PartialEq, Eq, Debug)]
+pub struct JsonHead<'a>(pub Source<'a>);
 
 impl fmt::Display for JsonHead<'_> {
     fn fmt<W: fmt::Write>(&self, f: &mut fmt::Formatter<W>) -> fmt::Result {
-        let name = JsonText(self.name);
-        let size = self.size;
-        let checksum = checksum_word(self.settings.checksum);
-        let service = service_word(self.settings.service);
-        let fasb = self.settings.fasb;
+        let Source {
+            name,
+            reel,
+            settings,
+        } = self.0;
+        let name = JsonText(name);
+        let size = reel.len();
+        let checksum = settings.checksum.word();
+        let service = settings.service.word();
+        let fasb = settings.fasb;
         writeln!(f, "{{\"reel\": {name}, \"bytes\": {size},")?;
         writeln!(
             f,
@@ -81,16 +73,13 @@ impl fmt::Display for JsonHead<'_> {
 }
 
 /// One entry as an object.
-#[derive(Clone, Copy)]
+#[derive(Clone, Copy, PartialEq, Eq, Debug)]
 pub struct EntryJson(pub Entry);
 
 fn write_header<W: fmt::Write>(f: &mut fmt::Formatter<W>, header: SyncHeader) -> fmt::Result {
-    let kind = kind_word(header.kind);
-    let frame = JsonNumber(match header.frame_id {
-        Some(id) => Some(u32::from(id)),
-        None => None,
-    });
-    let time = JsonNumber(header.timestamp);
+    let kind = header.kind.word();
+    let frame = or_word(header.frame_id, "null");
+    let time = or_word(header.timestamp, "null");
     let access = header.access_point;
     let unreferenced = header.unreferenced;
     write!(
@@ -104,7 +93,7 @@ fn write_header<W: fmt::Write>(f: &mut fmt::Formatter<W>, header: SyncHeader) ->
 }
 
 fn write_packet<W: fmt::Write>(f: &mut fmt::Formatter<W>, packet: Packet) -> fmt::Result {
-    let word = verdict_word(packet.verdict);
+    let word = packet.verdict.word();
     let len = packet.len;
     write!(f, "{{\"entry\": \"{word}\", \"length\": {len}")?;
     if let Verdict::Foreign { number } = packet.verdict {
@@ -152,27 +141,40 @@ impl fmt::Display for EntryJson {
     }
 }
 
-/// The superframes as a list, each with the list of its entries.
+/// The superframes as a list, each with the list of its entries. Each list has a flag: a comma stands before all but its first.
 #[derive(Drop)]
 pub struct JsonCatalogue<'a, O> {
-    pub out: &'a mut O,
+    out: &'a mut O,
     /// Whether a superframe stands before.
-    pub superframe_before: bool,
+    superframe_before: bool,
     /// Whether an entry stands before, in the same superframe.
-    pub entry_before: bool,
+    entry_before: bool,
+}
+
+impl<'a, O> JsonCatalogue<'a, O> {
+    /// One that is written here.
+    pub fn to(out: &'a mut O) -> JsonCatalogue<'a, O>
+        ensures { result ≡ record { out = out.entry; superframe_before = false; entry_before = false } }
+    {
+        JsonCatalogue {
+            out,
+            superframe_before: false,
+            entry_before: false,
+        }
+    }
 }
 
 impl<O: fmt::Write> Visitor for JsonCatalogue<'_, O> {
     fn superframe(&mut self, number: u64, block: Block<'_>) -> fmt::Result {
         let at = block.at;
-        let there = block.frames.len() as u64 / 122;
-        let gaps = u64::from(block.size).saturating_sub(there);
+        let frames = block.frame_count();
+        let gaps = block.gap_count();
         let comma = if self.superframe_before { "," } else { "" };
         self.superframe_before = true;
         self.entry_before = false;
         write!(
             self.out,
-            "{comma}\n  {{\"superframe\": {number}, \"at\": {at}, \"frames\": {there}"
+            "{comma}\n  {{\"superframe\": {number}, \"at\": {at}, \"frames\": {frames}"
         )?;
         write!(self.out, ", \"gaps\": {gaps}, \"entries\": [")
     }
@@ -189,8 +191,18 @@ impl<O: fmt::Write> Visitor for JsonCatalogue<'_, O> {
     }
 }
 
+impl<O: fmt::Write> Catalogue for JsonCatalogue<'_, O> {
+    fn head(&mut self, source: Source<'_>) -> fmt::Result {
+        self.out.write(JsonHead(source))
+    }
+
+    fn end(&mut self, _source: Source<'_>, outcome: Outcome) -> fmt::Result {
+        self.out.write(JsonEnd(outcome))
+    }
+}
+
 /// The end of the object: the totals, and what is missing.
-#[derive(Clone, Copy)]
+#[derive(Clone, Copy, PartialEq, Eq, Debug)]
 pub struct JsonEnd(pub Outcome);
 
 fn write_kinds<W: fmt::Write>(f: &mut fmt::Formatter<W>, kinds: Kinds) -> fmt::Result {

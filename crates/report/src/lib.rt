@@ -6,6 +6,7 @@ pub mod entry;
 pub mod json;
 pub mod names;
 pub mod settings;
+pub mod source;
 pub mod summary;
 pub mod text;
 pub mod totals;

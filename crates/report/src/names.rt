@@ -1,45 +1,27 @@
 //! The names of extracted files, and the lines of their manifest.
-ghost use Rattle.std.specs.Prelude.{◌≡◌, Some};
-ghost use Rattle.report.specs.Names.{zeros, order_name, mark_name, file_name, kind_mark};
+ghost use Rattle.std.specs.Prelude.{Some};
+ghost use Rattle.report.specs.Names.{order_name, mark_name, file_name};
 
 use crate::entry::{Entry, Packet, Verdict};
 use crate::visit::Outcome;
-use crate::words::{kind_word, verdict_word, yes_no};
+use crate::words::or_word;
 use checksum::checksum::Checksum;
 use checksum::crc16::Crc16;
 use service::header::SyncHeader;
+use spelling::answer::yes_no;
+use spelling::optional::Optional;
 use std::fmt;
 
 /// The order of a packet, in six digits or more, so that names sort as the packets came.
-#[derive(Clone, Copy)]
+#[derive(Clone, Copy, PartialEq, Eq, Debug)]
 pub struct Order(pub u64);
-
-/// The zeros that make a number six digits long.
-fn zeros_before(number: u64) -> &'static str
-    ensures { result.now ≡ zeros number }
-{
-    if number < 10 {
-        return "00000";
-    }
-    if number < 100 {
-        return "0000";
-    }
-    if number < 1_000 {
-        return "000";
-    }
-    if number < 10_000 {
-        return "00";
-    }
-    if number < 100_000 { "0" } else { "" }
-}
 
 impl fmt::Display for Order {
     ghost output = { λ o. Some (order_name o.0) };
 
     fn fmt<W: fmt::Write>(&self, f: &mut fmt::Formatter<W>) -> fmt::Result {
         let number = self.0;
-        let zeros = zeros_before(number);
-        write!(f, "{zeros}{number}")
+        write!(f, "{number:06}")
     }
 }
 
@@ -54,31 +36,20 @@ impl fmt::Display for Mark {
         let packet = self.0;
         match packet.verdict {
             Verdict::Foreign { number } => write!(f, "-{number}"),
-            _ => f.write(KindMark(packet.header)),
-        }
-    }
-}
-
-/// The kind of a packet whose header can be read.
-#[derive(Clone, Copy)]
-struct KindMark(Option<SyncHeader>);
-
-impl fmt::Display for KindMark {
-    ghost output = { λ m. Some (kind_mark m.0) };
-
-    fn fmt<W: fmt::Write>(&self, f: &mut fmt::Formatter<W>) -> fmt::Result {
-        match self.0 {
-            Some(header) => {
-                let kind = kind_word(header.kind);
-                write!(f, "-{kind}")
+            _ => {
+                let kind = Optional {
+                    before: "-",
+                    value: packet.header.map(|header| header.kind.word()),
+                    absent: "",
+                };
+                write!(f, "{kind}")
             }
-            None => f.write_str(""),
         }
     }
 }
 
 /// The name of a packet's file: its order, its verdict, and its kind or the number of the question that refuses it.
-#[derive(Clone, Copy)]
+#[derive(Clone, Copy, PartialEq, Eq, Debug)]
 pub struct FileName {
     pub order: u64,
     pub packet: Packet,
@@ -89,7 +60,7 @@ impl fmt::Display for FileName {
 
     fn fmt<W: fmt::Write>(&self, f: &mut fmt::Formatter<W>) -> fmt::Result {
         let order = Order(self.order);
-        let verdict = verdict_word(self.packet.verdict);
+        let verdict = self.packet.verdict.word();
         let mark = Mark(self.packet);
         write!(f, "{order}-{verdict}{mark}.bin")
     }
@@ -100,27 +71,14 @@ pub const MANIFEST_HEAD: &str =
     "order\tsuperframe\tentry\tlength\tcrc16\tkind\tframe_id\ttimestamp\taccess_point\tunreferenced\tframe\tdropped\tquestion\tat\tfile\n";
 
 /// One line of a manifest, its parts parted by tabs; what an entry does not have is `-`.
-#[derive(Clone, Copy)]
+#[derive(Clone, Copy, PartialEq, Eq, Debug)]
 pub struct ManifestLine<'a> {
-    /// The packet's order; entries that are no packets have none.
+    /// The packet's order. It stands beside the entry, which is shown before it has one; lines on other entries leave it out.
     pub order: u64,
     pub superframe: u64,
     pub entry: Entry,
     /// The bytes of a packet.
     pub bytes: &'a [u8],
-}
-
-/// A number that may be absent: `-` then.
-#[derive(Clone, Copy)]
-struct OrDash(Option<u32>);
-
-impl fmt::Display for OrDash {
-    fn fmt<W: fmt::Write>(&self, f: &mut fmt::Formatter<W>) -> fmt::Result {
-        match self.0 {
-            Some(number) => write!(f, "{number}"),
-            None => f.write_str("-"),
-        }
-    }
 }
 
 /// Writes the five facts of a sync header.
@@ -131,12 +89,9 @@ fn write_facts<W: fmt::Write>(
     let Some(header) = header else {
         return f.write_str("-\t-\t-\t-\t-");
     };
-    let kind = kind_word(header.kind);
-    let frame = OrDash(match header.frame_id {
-        Some(id) => Some(u32::from(id)),
-        None => None,
-    });
-    let time = OrDash(header.timestamp);
+    let kind = header.kind.word();
+    let frame = or_word(header.frame_id, "-");
+    let time = or_word(header.timestamp, "-");
     let access = yes_no(header.access_point);
     let unreferenced = yes_no(header.unreferenced);
     write!(f, "{kind}\t{frame}\t{time}\t{access}\t{unreferenced}")
@@ -149,15 +104,17 @@ fn write_packet<W: fmt::Write>(
     packet: Packet,
     bytes: &[u8],
 ) -> fmt::Result {
-    let verdict = verdict_word(packet.verdict);
+    let verdict = packet.verdict.word();
     let len = packet.len;
+    // A value has room for the widest checksum; that of CRC-16 is its first two bytes.
     let [high, low, _, _] = Crc16.value_of(bytes);
     write!(f, "{verdict}\t{len}\t{high:02x}{low:02x}\t")?;
     write_facts(f, packet.header)?;
-    let question = OrDash(match packet.verdict {
-        Verdict::Foreign { number } => Some(u32::from(number)),
-        _ => None,
-    });
+    let question = match packet.verdict {
+        Verdict::Foreign { number } => Some(number),
+        Verdict::Sound | Verdict::Damaged => None,
+    };
+    let question = or_word(question, "-");
     let name = FileName { order, packet };
     writeln!(f, "\t-\t-\t{question}\t-\t{name}")
 }
@@ -165,13 +122,15 @@ fn write_packet<W: fmt::Write>(
 impl fmt::Display for ManifestLine<'_> {
     fn fmt<W: fmt::Write>(&self, f: &mut fmt::Formatter<W>) -> fmt::Result {
         let superframe = self.superframe;
-        if let Entry::Packet(packet) = self.entry {
+        if let Entry::Packet(_) = self.entry {
             let order = self.order;
             write!(f, "{order}\t{superframe}\t")?;
-            return write_packet(f, order, packet, self.bytes);
+        } else {
+            write!(f, "-\t{superframe}\t")?;
         }
-        write!(f, "-\t{superframe}\t")?;
         match self.entry {
+            Entry::Packet(packet) => write_packet(f, self.order, packet, self.bytes),
+            Entry::Short => writeln!(f, "short\t-\t-\t-\t-\t-\t-\t-\t-\t-\t-\t-\t-"),
             Entry::Lost { frame, dropped } => {
                 writeln!(f, "lost\t-\t-\t-\t-\t-\t-\t-\t{frame}\t{dropped}\t-\t-\t-")
             }
@@ -190,13 +149,12 @@ impl fmt::Display for ManifestLine<'_> {
             Entry::Unfinished { dropped } => {
                 writeln!(f, "unfinished\t-\t-\t-\t-\t-\t-\t-\t-\t{dropped}\t-\t-\t-")
             }
-            _ => writeln!(f, "short\t-\t-\t-\t-\t-\t-\t-\t-\t-\t-\t-\t-"),
         }
     }
 }
 
 /// The last lines of a manifest: a packet inside which the reel ended, and why the reel could be read no further.
-#[derive(Clone, Copy)]
+#[derive(Clone, Copy, PartialEq, Eq, Debug)]
 pub struct ManifestEnd(pub Outcome);
 
 impl fmt::Display for ManifestEnd {

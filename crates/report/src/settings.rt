@@ -1,33 +1,24 @@
-ghost use Rattle.std.specs.Prelude.{◌≡◌, ◌≤◌, length, IfOk, OnErr};
+ghost use Rattle.std.specs.Prelude.{◌≡◌, ◌≤◌, false, length, IfOk, OnErr};
+ghost use Rattle.checksum.specs.Choosing.{width_by, value_by};
+ghost use Rattle.checksum.specs.declared.choice.ChecksumChoice.TheVariants.{Crc16 as crc16};
 ghost use Rattle.reel.specs.Playing.{waiting_slots};
 ghost use Rattle.receiver.specs.Readings.{refusal, buffer_question, side, Reads};
 ghost use Rattle.receiver.specs.Views.{view};
-ghost use Rattle.report.specs.Settings.{width_of, value_of, refuses_by};
+ghost use Rattle.service.specs.Choosing.{refuses_by};
+ghost use Rattle.service.specs.declared.choice.ServiceChoice.TheVariants.{Sync};
 
+use checksum::choice::ChecksumChoice;
 use checksum::crc16::Crc16;
 use checksum::none::NoChecksum;
 use receiver::answer::{BufferTooShort, Reading};
 use receiver::reader::Reader;
+use receiver::terms::Terms;
 use reel::playing::ReelChannel;
-use service::plain::Plain;
-use service::sync::Sync;
+use service::choice::ServiceChoice;
 
-/// Which checksum the packets of a reel carry.
-#[derive(Clone, Copy, PartialEq, Eq)]
-pub enum ChecksumChoice {
-    Without,
-    Crc16,
-}
-
-/// Which service the packets of a reel belong to.
-#[derive(Clone, Copy, PartialEq, Eq)]
-pub enum ServiceChoice {
-    Plain,
-    Sync,
-}
-
-/// How a reel is to be read. Nothing on the reel itself says so.
-#[derive(Clone, Copy)]
+/// How a reel is to be read. Nothing on the reel itself says so. These are the receiver's `Terms` with both choices, as a type of its
+/// own, since only a type of this crate can be given what it reads by and a default here.
+#[derive(Clone, Copy, PartialEq, Eq, Debug)]
 pub struct Settings {
     /// Whether packets may cross superframes.
     pub fasb: bool,
@@ -35,7 +26,31 @@ pub struct Settings {
     pub service: ServiceChoice,
 }
 
+/// Those of the museum's own recordings.
+impl Default for Settings {
+    ghost is_default = { λ s. s ≡ record { fasb = false; checksum = crc16; service = Sync } };
+
+    fn default() -> Settings {
+        Settings {
+            fasb: false,
+            checksum: ChecksumChoice::Crc16,
+            service: ServiceChoice::Sync,
+        }
+    }
+}
+
 impl Settings {
+    /// The terms that they name, with the checksum, which is a type.
+    fn terms<K>(self, checksum: K) -> Terms<K, ServiceChoice>
+        ensures { result ≡ record { checksum = checksum; service = self.service; fasb = self.fasb } }
+    {
+        Terms {
+            checksum,
+            service: self.service,
+            fasb: self.fasb,
+        }
+    }
+
     /// One reading under these settings.
     pub fn read(
         self,
@@ -45,22 +60,16 @@ impl Settings {
     ) -> Result<Reading, BufferTooShort>
         ensures asks { refusal result ≡ buffer_question (length buffer.old) }
         ensures same { OnErr result ((reader.new ≡ reader.old) × (channel.new ≡ channel.old) × (buffer.new ≡ buffer.old)) }
-        ensures reads { IfOk result (λ a. Reads self.fasb (width_of self.checksum) (value_of self.checksum) (refuses_by self.service) (side (view reader.old) (waiting_slots channel.old) buffer.old) a (side (view reader.new) (waiting_slots channel.new) buffer.new)) }
+        ensures reads { IfOk result (λ a. Reads self.fasb (width_by self.checksum) (value_by self.checksum) (refuses_by self.service) (side (view reader.old) (waiting_slots channel.old) buffer.old) a (side (view reader.new) (waiting_slots channel.new) buffer.new)) }
     {
-        let fasb = self.fasb;
-        match (self.checksum, self.service) {
-            (ChecksumChoice::Without, ServiceChoice::Plain) => {
-                reader.read(channel, &NoChecksum, &Plain, fasb, buffer)
-            }
-            (ChecksumChoice::Without, ServiceChoice::Sync) => {
-                reader.read(channel, &NoChecksum, &Sync, fasb, buffer)
-            }
-            (ChecksumChoice::Crc16, ServiceChoice::Plain) => {
-                reader.read(channel, &Crc16, &Plain, fasb, buffer)
-            }
-            (ChecksumChoice::Crc16, ServiceChoice::Sync) => {
-                reader.read(channel, &Crc16, &Sync, fasb, buffer)
-            }
+        // A reader is told its checksum by a type: each choice is a reading of its own.
+        match self.checksum {
+            ChecksumChoice::Without => reader.read(
+                channel,
+                self.terms(NoChecksum).as_ref(),
+                buffer,
+            ),
+            ChecksumChoice::Crc16 => reader.read(channel, self.terms(Crc16).as_ref(), buffer),
         }
     }
 }

@@ -4,7 +4,7 @@ use crate::words::Count;
 use std::fmt;
 
 /// The sentence on what is missing of a reel.
-#[derive(Clone, Copy)]
+#[derive(Clone, Copy, PartialEq, Eq, Debug)]
 pub struct Summary(pub Outcome);
 
 impl fmt::Display for Summary {

@@ -1,30 +1,34 @@
 //! The catalogue as text.
+ghost use Rattle.std.specs.Prelude.{◌≡◌};
+
+use crate::catalogue::Catalogue;
 use crate::entry::{Entry, Packet, Verdict};
-use crate::settings::{ServiceChoice, Settings};
+use crate::source::Source;
 use crate::summary::Summary;
 use crate::totals::{Kinds, Totals};
 use crate::visit::{Outcome, Visitor};
-use crate::words::{Count, Facts, checksum_word, on_off, service_word};
+use crate::words::{Facts, SuperframeWords, on_off};
 use reel::block::Block;
+use service::choice::ServiceChoice;
 use service::header::HeaderFault;
 use std::fmt;
 use std::fmt::Write;
 
 /// The first lines of the catalogue.
-#[derive(Clone, Copy)]
-pub struct TextHead<'a> {
-    pub name: &'a str,
-    pub size: usize,
-    pub settings: Settings,
-}
+#[derive(Clone, Copy, PartialEq, Eq, Debug)]
+pub struct TextHead<'a>(pub Source<'a>);
 
 impl fmt::Display for TextHead<'_> {
     fn fmt<W: fmt::Write>(&self, f: &mut fmt::Formatter<W>) -> fmt::Result {
-        let name = self.name;
-        let size = self.size;
-        let checksum = checksum_word(self.settings.checksum);
-        let service = service_word(self.settings.service);
-        let fasb = on_off(self.settings.fasb);
+        let Source {
+            name,
+            reel,
+            settings,
+        } = self.0;
+        let size = reel.len();
+        let checksum = settings.checksum.word();
+        let service = settings.service.word();
+        let fasb = on_off(settings.fasb);
         writeln!(f, "{name}: {size} bytes")?;
         writeln!(
             f,
@@ -34,23 +38,14 @@ impl fmt::Display for TextHead<'_> {
 }
 
 /// One line on an entry.
-#[derive(Clone, Copy)]
+#[derive(Clone, Copy, PartialEq, Eq, Debug)]
 pub struct EntryText(pub Entry);
-
-/// The verdict as the first column of a line.
-fn verdict_column(verdict: Verdict) -> &'static str {
-    match verdict {
-        Verdict::Sound => "  sound     ",
-        Verdict::Damaged => "  damaged   ",
-        Verdict::Foreign { .. } => "  foreign   ",
-    }
-}
 
 /// Writes the line of a packet.
 fn write_packet<W: fmt::Write>(f: &mut fmt::Formatter<W>, packet: Packet) -> fmt::Result {
+    let verdict = packet.verdict.word();
     let len = packet.len;
-    f.write_str(verdict_column(packet.verdict))?;
-    write!(f, "{len:>5} bytes")?;
+    write!(f, "  {verdict:<10}{len:>5} bytes")?;
     if let Verdict::Foreign { number } = packet.verdict {
         let why = ForeignReason(number);
         write!(f, "   question {number}: {why}")?;
@@ -91,48 +86,38 @@ impl fmt::Display for EntryText {
 }
 
 /// Why the sync service refuses a packet under this number.
-#[derive(Clone, Copy)]
+#[derive(Clone, Copy, PartialEq, Eq, Debug)]
 pub struct ForeignReason(pub u8);
 
 impl fmt::Display for ForeignReason {
     fn fmt<W: fmt::Write>(&self, f: &mut fmt::Formatter<W>) -> fmt::Result {
-        let fault = match self.0 {
-            30 => HeaderFault::Empty,
-            31 => HeaderFault::ReservedBits,
-            32 => HeaderFault::FrameIdPresence,
-            33 => HeaderFault::FlagForKind,
-            34 => HeaderFault::NoPayload,
-            35 => HeaderFault::FrameIdRange,
-            _ => return f.write_str("the service does not admit it"),
-        };
-        f.write(fault)
+        match HeaderFault::try_from(self.0) {
+            // The fault of writing refuses no packet.
+            Ok(HeaderFault::BufferLength) | Err(_) => f.write_str("the service does not admit it"),
+            Ok(fault) => f.write(fault),
+        }
     }
 }
 
 /// The catalogue of a reel, superframe by superframe.
 #[derive(Drop)]
 pub struct TextCatalogue<'a, O> {
-    pub out: &'a mut O,
+    out: &'a mut O,
+}
+
+impl<'a, O> TextCatalogue<'a, O> {
+    /// One that is written here.
+    pub fn to(out: &'a mut O) -> TextCatalogue<'a, O>
+        ensures { result.out ≡ out.entry }
+    {
+        TextCatalogue { out }
+    }
 }
 
 impl<O: fmt::Write> Visitor for TextCatalogue<'_, O> {
     fn superframe(&mut self, number: u64, block: Block<'_>) -> fmt::Result {
-        let at = block.at;
-        let there = block.frames.len() as u64 / 122;
-        let frames = Count {
-            number: there,
-            one: "frame",
-            many: "frames",
-        };
-        let gaps = Count {
-            number: u64::from(block.size).saturating_sub(there),
-            one: "gap",
-            many: "gaps",
-        };
-        writeln!(
-            self.out,
-            "\nsuperframe {number}, at byte {at}: {frames}, {gaps}"
-        )
+        let words = SuperframeWords { number, block };
+        writeln!(self.out, "\n{words}")
     }
 
     fn entry(&mut self, entry: Entry, _packet: &[u8]) -> fmt::Result {
@@ -144,8 +129,19 @@ impl<O: fmt::Write> Visitor for TextCatalogue<'_, O> {
     }
 }
 
+impl<O: fmt::Write> Catalogue for TextCatalogue<'_, O> {
+    fn head(&mut self, source: Source<'_>) -> fmt::Result {
+        self.out.write(TextHead(source))
+    }
+
+    fn end(&mut self, source: Source<'_>, outcome: Outcome) -> fmt::Result {
+        let service = source.settings.service;
+        self.out.write(TextEnd { outcome, service })
+    }
+}
+
 /// The last lines of the catalogue: the totals, and what is missing.
-#[derive(Clone, Copy)]
+#[derive(Clone, Copy, PartialEq, Eq, Debug)]
 pub struct TextEnd {
     pub outcome: Outcome,
     pub service: ServiceChoice,
@@ -194,11 +190,11 @@ fn write_packets<W: fmt::Write>(
     let dropped = totals.dropped;
     writeln!(f, "  packets          {packets:>12}")?;
     writeln!(f, "    sound          {sound:>12}")?;
-    if let ServiceChoice::Sync = service {
+    if service == ServiceChoice::Sync {
         write_kinds(f, totals.kinds)?;
     }
     writeln!(f, "    damaged        {damaged:>12}")?;
-    if let ServiceChoice::Sync = service {
+    if service == ServiceChoice::Sync {
         let captions = totals.damaged_kinds.captions;
         writeln!(f, "      captions     {captions:>12}   (timed data)")?;
     }
@@ -210,16 +206,15 @@ fn write_packets<W: fmt::Write>(
 
 /// What to try where the settings are probably not those of the reel.
 fn advice(totals: Totals) -> &'static str {
-    if totals.sound > 0 {
-        return "";
+    match (totals.sound, totals.damaged, totals.foreign) {
+        (0, 1.., 0) => {
+            "Every packet is damaged: if the reel has no checksums, read it with --checksum none.\n"
+        }
+        (0, 0, 1..) => {
+            "Every packet is foreign: if the reel has no sync packets, read it with --service plain.\n"
+        }
+        _ => "",
     }
-    if totals.damaged > 0 && totals.foreign == 0 {
-        return "Every packet is damaged: if the reel has no checksums, read it with --checksum none.\n";
-    }
-    if totals.foreign > 0 && totals.damaged == 0 {
-        return "Every packet is foreign: if the reel has no sync packets, read it with --service plain.\n";
-    }
-    ""
 }
 
 impl fmt::Display for TextEnd {

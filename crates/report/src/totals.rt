@@ -1,11 +1,11 @@
 ghost use Rattle.std.specs.Prelude.{◌≡◌};
-ghost use Rattle.report.specs.Tallies.{plus, no_kinds, with_kind, nothing_yet, counting_packet, counting_dropped, tallied, all_packets};
+ghost use Rattle.report.specs.Tallies.{with_kind, counting_packet, counting_dropped, tallied, all_packets};
 
 use crate::entry::{Entry, Packet, Verdict};
 use service::header::Kind;
 
 /// How many packets there are of each kind that a sync header names.
-#[derive(Clone, Copy, PartialEq, Eq, Debug)]
+#[derive(Clone, Copy, PartialEq, Eq, Debug, Default)]
 pub struct Kinds {
     pub video: u64,
     pub audio: u64,
@@ -14,8 +14,9 @@ pub struct Kinds {
     pub adaptation: u64,
 }
 
-/// What the entries of a reel come to. A count that reaches the largest number stays there.
-#[derive(Clone, Copy, PartialEq, Eq, Debug)]
+/// What the entries of a reel come to. A count that reaches the largest number stays there: the counts are
+/// plain numbers, which every form of catalogue prints, so it is said where they grow and not in their type.
+#[derive(Clone, Copy, PartialEq, Eq, Debug, Default)]
 pub struct Totals {
     pub lost: u64,
     pub torn: u64,
@@ -34,18 +35,6 @@ pub struct Totals {
 }
 
 impl Kinds {
-    /// None of any kind.
-    pub fn none() -> Kinds
-        ensures { result ≡ no_kinds }
-    {
-        Kinds {
-            video: 0,
-            audio: 0,
-            captions: 0,
-            adaptation: 0,
-        }
-    }
-
     /// With one more of this kind.
     pub fn with(mut self, kind: Kind) -> Kinds
         ensures { result ≡ with_kind self kind }
@@ -61,24 +50,6 @@ impl Kinds {
 }
 
 impl Totals {
-    /// Nothing yet.
-    pub fn none() -> Totals
-        ensures { result ≡ nothing_yet }
-    {
-        Totals {
-            lost: 0,
-            torn: 0,
-            sound: 0,
-            damaged: 0,
-            foreign: 0,
-            short: 0,
-            unfinished: 0,
-            dropped: 0,
-            kinds: Kinds::none(),
-            damaged_kinds: Kinds::none(),
-        }
-    }
-
     /// With one packet more.
     fn with_packet(mut self, packet: Packet) -> Totals
         ensures { result ≡ counting_packet self packet.verdict packet.header }

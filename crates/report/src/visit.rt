@@ -12,21 +12,23 @@ pub trait Visitor {
     /// A superframe begins, the one of this number, counted from 1.
     fn superframe(&mut self, number: u64, block: Block<'_>) -> fmt::Result;
 
-    /// An entry of that superframe; where it is a packet, these are its bytes, else there are none.
+    /// An entry of that superframe; where it is a packet, these are its bytes, else there are none. They stand beside the entry, which
+    /// so is plain data: the totals and the lines on it keep no hold on the buffer.
     fn entry(&mut self, entry: Entry, packet: &[u8]) -> fmt::Result;
 
     /// The superframe ends.
     fn superframe_end(&mut self) -> fmt::Result;
 }
 
-/// To whom it is told how far the reading of a reel is.
+/// To whom it is told how far the reading of a reel is. It is no closure: a walk promises what it does for every visitor and every
+/// `Progress`, and would have to ask of a closure that it may always be called.
 pub trait Progress {
     /// The reel is read up to this byte.
     fn passed(&mut self, at: usize);
 }
 
 /// Nobody.
-#[derive(Clone, Copy)]
+#[derive(Clone, Copy, PartialEq, Eq, Debug)]
 pub struct Silent;
 
 impl Progress for Silent {
@@ -34,13 +36,14 @@ impl Progress for Silent {
 }
 
 /// What a whole reel came to.
-#[derive(Clone, Copy)]
+#[derive(Clone, Copy, PartialEq, Eq, Debug)]
 pub struct Outcome {
     /// What stands on the reel, up to its end or its first fault, and that fault.
     pub surveyed: Surveyed,
     /// What was read of it.
     pub totals: Totals,
-    /// The bytes of a packet inside which the reel ended, where packets may cross superframes.
+    /// The bytes of a packet inside which the reel ended, where packets may cross superframes; 0 where it ended in none, as the
+    /// catalogue prints it.
     pub open_at_end: u16,
 }
 

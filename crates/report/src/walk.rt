@@ -1,20 +1,18 @@
 ghost use Rattle.std.specs.Prelude.{◌≡◌, [], IfOk, OnOk};
-ghost use Rattle.std.specs.Option.{option_map};
 ghost use Rattle.receiver.specs.Reading.{new_reader};
 ghost use Rattle.receiver.specs.Readings.{said};
-ghost use Rattle.receiver.specs.Views.{view};
-ghost use Rattle.reel.specs.Counting.{Counts};
-ghost use Rattle.reel.specs.Parts.{told_as};
 ghost use Rattle.reel.specs.Playing.{reel_slots};
 ghost use Rattle.reel.specs.Reel.{reading as onReel};
+ghost use Rattle.report.specs.Complete.{ComesTo};
 ghost use Rattle.report.specs.Tallies.{nothing_yet};
-ghost use Rattle.report.specs.Walking.{counting_open, tallied_answer, tallied_all, owed_by, owed_from, in_all, Passed, is_the_last};
+ghost use Rattle.report.specs.Walking.{counting_open, tallied_all, owed_by, owed_to, in_all, with_answer, Passed, is_the_last};
 ghost use Rattle.report.specs.declared.walk.Until.TheVariants.{End};
 
 use crate::entry::{Entry, front, shown_by};
-use crate::settings::{ServiceChoice, Settings};
+use crate::settings::Settings;
 use crate::totals::Totals;
 use crate::visit::{Outcome, Progress, Visitor};
+use framing::judging::PACKET_MAX;
 use receiver::answer::Reading;
 use receiver::reader::Reader;
 use reel::blocks::Blocks;
@@ -22,7 +20,7 @@ use reel::counting::survey;
 use reel::playing::ReelChannel;
 use std::fmt;
 
-/// How far a walk goes.
+/// How far a walk reads on. The words are those in which it is promised what is still owed; a closure would need a promise of its own.
 #[derive(Clone, Copy, PartialEq, Eq)]
 enum Until {
     /// Through the next mark, or to the end where there is none.
@@ -35,136 +33,123 @@ enum Until {
 fn is_last(reading: Reading, until: Until) -> bool
     ensures { result ≡ is_the_last until reading }
 {
-    match reading {
-        Reading::Mark { .. } => match until {
-            Until::Mark => true,
-            Until::End => false,
-        },
-        Reading::Nothing => true,
-        _ => false,
-    }
+    matches!(
+        (reading, until),
+        (Reading::Nothing, _) | (Reading::Mark { .. }, Until::Mark)
+    )
 }
 
 /// The bytes of an entry that is a packet.
 fn packet_of(entry: Entry, buffer: &[u8]) -> &[u8] {
     match entry {
         Entry::Packet(packet) => front(buffer, packet.len),
-        _ => &buffer[0..0],
+        _ => &[],
     }
 }
 
-/// Adds what a reading shows to the totals, and shows it.
-fn show<V: Visitor>(
-    reading: Reading,
-    buffer: &[u8],
-    service: ServiceChoice,
-    totals: &mut Totals,
-    visitor: &mut V,
-) -> fmt::Result
-    ensures { totals.new ≡ tallied_answer service totals.old (said reading buffer.now) }
-{
-    if let Some(entry) = shown_by(reading, buffer, service) {
-        *totals = totals.with(entry);
-        visitor.entry(entry, packet_of(entry, buffer))?;
-    }
-    Ok(())
+/// A walk over a reel: how it reads, how far it is, and what that came to.
+#[derive(Drop)]
+struct ReelWalk<'a> {
+    settings: Settings,
+    reader: Reader,
+    channel: ReelChannel<'a>,
+    totals: Totals,
 }
 
-/// One reading, which is shown and added to the totals.
-fn read_one<V: Visitor>(
-    settings: Settings,
-    reader: &mut Reader,
-    channel: &mut ReelChannel<'_>,
-    totals: &mut Totals,
-    visitor: &mut V,
-) -> Result<Reading, fmt::Error>
-    ensures { IfOk result (λ a. Passed settings.service a totals.old (owed_from settings reader.old channel.old) totals.new (owed_from settings reader.new channel.new)) }
-{
-    let mut buffer = [0; 2044];
-    let Ok(reading) = settings.read(reader, channel, &mut buffer) else {
-        return Err(fmt::Error);
-    };
-    show(reading, &buffer, settings.service, totals, visitor)?;
-    Ok(reading)
-}
-
-/// Reads on so far, and shows all that it reads and adds it to the totals.
-fn read_on<V: Visitor>(
-    settings: Settings,
-    until: Until,
-    reader: &mut Reader,
-    channel: &mut ReelChannel<'_>,
-    totals: &mut Totals,
-    visitor: &mut V,
-) -> fmt::Result
-    ensures counted { OnOk result (in_all settings totals.new reader.new channel.new ≡ in_all settings totals.old reader.old channel.old) }
-    ensures out { OnOk result ((until ≡ End → owed_from settings reader.new channel.new ≡ [])) }
-{
-    loop {
-        let reading = read_one(settings, reader, channel, totals, visitor)?;
-        if is_last(reading, until) {
-            return Ok(());
+impl<'a> ReelWalk<'a> {
+    /// A walk that has read nothing yet of this reel.
+    fn over(reel: &'a [u8], settings: Settings) -> ReelWalk<'a>
+        ensures { in_all result ≡ tallied_all settings.service nothing_yet (owed_by settings new_reader (reel_slots (onReel reel.now).superframes)) }
+    {
+        ReelWalk {
+            settings,
+            reader: Reader::new(),
+            channel: ReelChannel::over(reel),
+            totals: Totals::default(),
         }
     }
-}
 
-/// Reads a superframe that has begun, through its mark.
-fn read_superframe<V: Visitor>(
-    settings: Settings,
-    reader: &mut Reader,
-    channel: &mut ReelChannel<'_>,
-    totals: &mut Totals,
-    visitor: &mut V,
-) -> fmt::Result
-    ensures { OnOk result (in_all settings totals.new reader.new channel.new ≡ in_all settings totals.old reader.old channel.old) }
-{
-    read_on(settings, Until::Mark, reader, channel, totals, visitor)?;
-    visitor.superframe_end()?;
-    Ok(())
-}
-
-/// How many bytes the reader still has of a packet whose end never came: a lost frame behind the reel's end would drop them.
-fn open_bytes(settings: Settings, reader: &mut Reader) -> u16 {
-    let mut buffer = [0; 2044];
-    let one_gap = [1, 0];
-    let mut channel = ReelChannel::over(&one_gap);
-    match settings.read(reader, &mut channel, &mut buffer) {
-        Ok(Reading::Lost { dropped, .. }) => dropped,
-        _ => 0,
+    /// Adds what a reading shows to the totals, and shows it.
+    fn show<V: Visitor>(&mut self, reading: Reading, buffer: &[u8], visitor: &mut V) -> fmt::Result
+        ensures { self.new ≡ with_answer self.old (said reading buffer.now) }
+    {
+        if let Some(entry) = shown_by(reading, buffer, self.settings.service) {
+            self.totals = self.totals.with(entry);
+            visitor.entry(entry, packet_of(entry, buffer))?;
+        }
+        Ok(())
     }
-}
 
-/// Reads all superframes of a reel, up to its end or its first fault, and shows each with all that it holds. Where the last is
-/// read, what the reader might still find is read too, so that nothing is passed over.
-fn read_all<V: Visitor, P: Progress>(
-    reel: &[u8],
-    settings: Settings,
-    reader: &mut Reader,
-    visitor: &mut V,
-    progress: &mut P,
-) -> Result<Totals, fmt::Error>
-    ensures { IfOk result (λ t. t ≡ tallied_all settings.service nothing_yet (owed_by settings (view reader.old) (reel_slots (onReel reel.now).superframes))) }
-{
-    let mut channel = ReelChannel::over(reel);
-    let mut totals = Totals::none();
-    let mut number = 0u64;
-    for found in Blocks::of(reel) {
-        if let Ok(block) = found {
-            progress.passed(block.at);
-            number = number.saturating_add(1);
-            visitor.superframe(number, block)?;
-            read_superframe(settings, reader, &mut channel, &mut totals, visitor)?;
+    /// One reading, which is shown and added to the totals.
+    fn read_one<V: Visitor>(&mut self, visitor: &mut V) -> Result<Reading, fmt::Error>
+        ensures { IfOk result (λ a. Passed a self.old self.new) }
+    {
+        let mut buffer = [0; PACKET_MAX];
+        let Ok(reading) = self
+            .settings
+            .read(&mut self.reader, &mut self.channel, &mut buffer)
+        else {
+            unreachable!("the buffer has room for the longest packet")
+        };
+        self.show(reading, &buffer, visitor)?;
+        Ok(reading)
+    }
+
+    /// Reads on so far, and shows all that it reads and adds it to the totals.
+    fn read_on<V: Visitor>(&mut self, until: Until, visitor: &mut V) -> fmt::Result
+        ensures counted { OnOk result (in_all self.new ≡ in_all self.old) }
+        ensures out { OnOk result ((until ≡ End → owed_to self.new ≡ [])) }
+    {
+        loop {
+            let reading = self.read_one(visitor)?;
+            if is_last(reading, until) {
+                return Ok(());
+            }
         }
     }
-    read_on(
-        settings,
-        Until::End,
-        reader,
-        &mut channel,
-        &mut totals,
-        visitor,
-    )?;
-    Ok(totals)
+
+    /// Reads a superframe that has begun, through its mark.
+    fn read_superframe<V: Visitor>(&mut self, visitor: &mut V) -> fmt::Result
+        ensures { OnOk result (in_all self.new ≡ in_all self.old) }
+    {
+        self.read_on(Until::Mark, visitor)?;
+        visitor.superframe_end()
+    }
+
+    /// Reads all superframes of the reel, up to its end or its first fault, and shows each with all that it holds. Where the last is
+    /// read, what the reader might still find is read too, so that nothing is passed over.
+    fn read_all<V: Visitor, P: Progress>(
+        &mut self,
+        reel: &[u8],
+        visitor: &mut V,
+        progress: &mut P,
+    ) -> fmt::Result
+        ensures { OnOk result (self.new.totals ≡ in_all self.old) }
+    {
+        for (number, found) in (1..).zip(Blocks::of(reel)) {
+            // `map_while(Result::ok)` is not covered in a function that takes its visitor's type. Behind a fault there is no block more.
+            if let Ok(block) = found {
+                progress.passed(block.at);
+                visitor.superframe(number, block)?;
+                self.read_superframe(visitor)?;
+            }
+        }
+        self.read_on(Until::End, visitor)?;
+        Ok(())
+    }
+
+    /// How many bytes the reader still has of a packet whose end never came: a lost frame behind the reel's end would drop them.
+    fn open_bytes(&mut self) -> u16 {
+        let mut buffer = [0; PACKET_MAX];
+        let mut one_gap = ReelChannel::over(&[1, 0]);
+        match self
+            .settings
+            .read(&mut self.reader, &mut one_gap, &mut buffer)
+        {
+            Ok(Reading::Lost { dropped, .. }) => dropped,
+            _ => 0,
+        }
+    }
 }
 
 /// With the packet inside which the reel ended, of which so many bytes were there, if there were any.
@@ -188,13 +173,12 @@ pub fn walk<V: Visitor, P: Progress>(
     visitor: &mut V,
     progress: &mut P,
 ) -> Result<Outcome, fmt::Error>
-    ensures counts { IfOk result (λ o. Counts (onReel reel.now).superframes o.surveyed.contents) }
-    ensures stops { IfOk result (λ o. option_map told_as o.surveyed.fault ≡ (onReel reel.now).stop) }
-    ensures all { IfOk result (λ o. o.totals ≡ counting_open (tallied_all settings.service nothing_yet (owed_by settings new_reader (reel_slots (onReel reel.now).superframes))) o.open_at_end) }
+    ensures { IfOk result (ComesTo settings reel.now) }
 {
-    let mut reader = Reader::new();
-    let totals = read_all(reel, settings, &mut reader, visitor, progress)?;
-    let open_at_end = open_bytes(settings, &mut reader);
+    let mut under_way = ReelWalk::over(reel, settings);
+    under_way.read_all(reel, visitor, progress)?;
+    let totals = under_way.totals;
+    let open_at_end = under_way.open_bytes();
     Ok(Outcome {
         surveyed: survey(reel),
         totals: with_open(totals, open_at_end),

@@ -1,52 +1,23 @@
 //! The words of the reports.
-ghost use Rattle.std.specs.Prelude.{◌≡◌, Some};
-ghost use Rattle.report.specs.Words.{word_of_kind, word_of_verdict, word_of_checksum, word_of_service, on_or_off, yes_or_no, count_words, fact_words, fact_of_frame, fact_of_time, fact_of_access, fact_of_reference};
+ghost use Rattle.std.specs.Prelude.{◌≡◌, ◌-◌, ◌/◌, length, Some};
+ghost use Rattle.report.specs.Words.{word_of_verdict, on_or_off, counted, superframe_words, fact_words};
 
 use crate::entry::Verdict;
-use crate::settings::{ChecksumChoice, ServiceChoice};
-use service::header::{Kind, SyncHeader};
+use reel::block::Block;
+use service::header::SyncHeader;
+use spelling::optional::Optional;
 use std::fmt;
 
-/// The word for a kind of packet, in names and data.
-pub fn kind_word(kind: Kind) -> &'static str
-    ensures { result.now ≡ word_of_kind kind }
-{
-    match kind {
-        Kind::Video => "video",
-        Kind::Audio => "audio",
-        Kind::TimedData => "data",
-        Kind::Adaptation => "adaptation",
-    }
-}
-
-/// The word for a verdict.
-pub fn verdict_word(verdict: Verdict) -> &'static str
-    ensures { result.now ≡ word_of_verdict verdict }
-{
-    match verdict {
-        Verdict::Sound => "sound",
-        Verdict::Damaged => "damaged",
-        Verdict::Foreign { .. } => "foreign",
-    }
-}
-
-/// The word for a checksum, as the option `--checksum` has it.
-pub fn checksum_word(checksum: ChecksumChoice) -> &'static str
-    ensures { result.now ≡ word_of_checksum checksum }
-{
-    match checksum {
-        ChecksumChoice::Without => "none",
-        ChecksumChoice::Crc16 => "crc16",
-    }
-}
-
-/// The word for a service, as the option `--service` has it.
-pub fn service_word(service: ServiceChoice) -> &'static str
-    ensures { result.now ≡ word_of_service service }
-{
-    match service {
-        ServiceChoice::Plain => "plain",
-        ServiceChoice::Sync => "sync",
+impl Verdict {
+    /// The word for a verdict.
+    pub fn word(self) -> &'static str
+        ensures { result.now ≡ word_of_verdict self }
+    {
+        match self {
+            Verdict::Sound => "sound",
+            Verdict::Damaged => "damaged",
+            Verdict::Foreign { .. } => "foreign",
+        }
     }
 }
 
@@ -57,15 +28,17 @@ pub fn on_off(on: bool) -> &'static str
     if on { "on" } else { "off" }
 }
 
-/// The word for an answer.
-pub fn yes_no(yes: bool) -> &'static str
-    ensures { result.now ≡ yes_or_no yes }
-{
-    if yes { "yes" } else { "no" }
+/// A value, or this word where there is none.
+pub(crate) fn or_word<T>(value: Option<T>, absent: &'static str) -> Optional<T> {
+    Optional {
+        before: "",
+        value,
+        absent,
+    }
 }
 
 /// A number of things, with the thing's name in the singular or the plural.
-#[derive(Clone, Copy)]
+#[derive(Clone, Copy, PartialEq, Eq, Debug)]
 pub struct Count<'a> {
     pub number: u64,
     pub one: &'a str,
@@ -73,6 +46,8 @@ pub struct Count<'a> {
 }
 
 impl fmt::Display for Count<'_> {
+    ghost output = { λ c. Some (counted c.number c.one.now c.many.now) };
+
     fn fmt<W: fmt::Write>(&self, f: &mut fmt::Formatter<W>) -> fmt::Result {
         let number = self.number;
         let name = if number == 1 { self.one } else { self.many };
@@ -80,63 +55,64 @@ impl fmt::Display for Count<'_> {
     }
 }
 
+/// What a line says of a superframe as a whole.
+#[derive(Clone, Copy, PartialEq, Eq, Debug)]
+pub struct SuperframeWords<'a> {
+    /// The superframe's number in the reel, counted from 1.
+    pub number: u64,
+    pub block: Block<'a>,
+}
+
+impl fmt::Display for SuperframeWords<'_> {
+    ghost output = { λ s. Some (superframe_words s.number s.block.at (length s.block.frames.now / 122) (s.block.size - length s.block.frames.now / 122)) };
+
+    fn fmt<W: fmt::Write>(&self, f: &mut fmt::Formatter<W>) -> fmt::Result {
+        let SuperframeWords { number, block } = *self;
+        let at = block.at;
+        let frames = Count {
+            number: block.frame_count() as u64,
+            one: "frame",
+            many: "frames",
+        };
+        let gaps = Count {
+            number: block.gap_count() as u64,
+            one: "gap",
+            many: "gaps",
+        };
+        write!(f, "superframe {number}, at byte {at}: {frames}, {gaps}")
+    }
+}
+
 /// What a sync header says, in short: what is absent is not named.
-#[derive(Clone, Copy)]
+#[derive(Clone, Copy, PartialEq, Eq, Debug)]
 pub struct Facts(pub SyncHeader);
-
-#[derive(Clone, Copy)]
-struct FrameFact(Option<u8>);
-
-#[derive(Clone, Copy)]
-struct TimeFact(Option<u32>);
-
-impl fmt::Display for FrameFact {
-    ghost output = { λ w. Some (fact_of_frame w.0) };
-
-    fn fmt<W: fmt::Write>(&self, f: &mut fmt::Formatter<W>) -> fmt::Result {
-        match self.0 {
-            Some(id) => write!(f, ", frame {id}"),
-            None => f.write_str(""),
-        }
-    }
-}
-
-impl fmt::Display for TimeFact {
-    ghost output = { λ w. Some (fact_of_time w.0) };
-
-    fn fmt<W: fmt::Write>(&self, f: &mut fmt::Formatter<W>) -> fmt::Result {
-        match self.0 {
-            Some(time) => write!(f, ", time {time}"),
-            None => f.write_str(""),
-        }
-    }
-}
-
-fn access_fact(access: bool) -> &'static str
-    ensures { result.now ≡ fact_of_access access }
-{
-    match access {
-        true => ", access point",
-        false => "",
-    }
-}
-
-fn reference_fact(unreferenced: bool) -> &'static str
-    ensures { result.now ≡ fact_of_reference unreferenced }
-{
-    if unreferenced { ", unreferenced" } else { "" }
-}
 
 impl fmt::Display for Facts {
     ghost output = { λ x. Some (fact_words x.0) };
 
     fn fmt<W: fmt::Write>(&self, f: &mut fmt::Formatter<W>) -> fmt::Result {
         let header = self.0;
-        let kind = kind_word(header.kind);
-        let frame = FrameFact(header.frame_id);
-        let time = TimeFact(header.timestamp);
-        let access = access_fact(header.access_point);
-        let reference = reference_fact(header.unreferenced);
+        let kind = header.kind.word();
+        let frame = Optional {
+            before: ", frame ",
+            value: header.frame_id,
+            absent: "",
+        };
+        let time = Optional {
+            before: ", time ",
+            value: header.timestamp,
+            absent: "",
+        };
+        let access = if header.access_point {
+            ", access point"
+        } else {
+            ""
+        };
+        let reference = if header.unreferenced {
+            ", unreferenced"
+        } else {
+            ""
+        };
         write!(f, "{kind}{frame}{time}{access}{reference}")
     }
 }

@@ -1,3 +1,4 @@
+use crate::failure::Failure;
 use crate::output::Output;
 use reel::block::Block;
 use report::entry::Entry;
@@ -22,16 +23,11 @@ impl Extractor<'_, '_, '_> {
     /// Writes a packet into its file.
     fn save(&mut self, name: FileName, bytes: &[u8]) -> fmt::Result {
         let directory = self.directory;
-        let Ok(path) = format!(in self.rt.alloc(); "{directory}/{name}") else {
-            return Err(fmt::Error);
-        };
-        match fs::write(self.rt, path.as_str(), bytes) {
-            Ok(()) => Ok(()),
-            Err(fault) => {
-                let _ = eprintln!(self.rt; "rothveam: {path} cannot be written: {fault}");
-                Err(fmt::Error)
-            }
-        }
+        let path = format!(in self.rt.alloc(); "{directory}/{name}")?;
+        fs::write(self.rt, path.as_str(), bytes).map_err(|fault| {
+            Failure::NotWritten(path.as_str(), Some(fault)).tell(self.rt);
+            fmt::Error
+        })
     }
 }
 

@@ -1,31 +1,51 @@
+use crate::failure::Failure;
 use report::visit::Progress;
+use std::alloc::Global;
 use std::io::Write;
 use std::{fmt, io};
 
-/// Text on its way to a file or to standard output. It is written in large pieces.
+/// Text on its way to a file or to standard output. It is written in large pieces. They are gathered here, as no `BufWriter` does it:
+/// that one writes the rest when it is dropped, and the text of a work that failed is not to be written on; and it takes all its
+/// memory before there is any text.
 #[derive(Drop)]
 pub struct Output<S> {
-    pub sink: S,
-    pub text: String,
+    sink: S,
+    text: String,
     /// What went wrong, if anything: formatting itself cannot carry it.
-    pub fault: Option<io::Error>,
+    fault: Option<io::Error>,
 }
 
 /// How much text is gathered before it is written.
 const PIECE: usize = 65_536;
 
 impl<S: Write> Output<S> {
+    /// Text for this file or stream.
+    pub fn to(heap: Global, sink: S) -> Output<S> {
+        Output {
+            sink,
+            text: String::new(heap),
+            fault: None,
+        }
+    }
+
     /// Writes what is gathered.
     pub fn flush(&mut self) -> fmt::Result {
         let written = self.sink.write_all(self.text.as_bytes());
         self.text.clear();
-        match written {
-            Ok(()) => Ok(()),
-            Err(fault) => {
-                self.fault = Some(fault);
-                Err(fmt::Error)
-            }
-        }
+        written.map_err(|fault| {
+            self.fault = Some(fault);
+            fmt::Error
+        })
+    }
+
+    /// Writes what is gathered of the text that has this name.
+    pub fn finish<'a>(&mut self, name: &'a str) -> Result<(), Failure<'a>> {
+        self.flush().map_err(|_| self.not_written(name))
+    }
+
+    /// That the text of this name cannot be written.
+    pub fn not_written<'a>(&self, name: &'a str) -> Failure<'a> {
+        Failure::NotWritten(name, self.fault)
     }
 }
 
@@ -34,10 +54,7 @@ impl<S: Write> fmt::Write for Output<S> {
         if self.text.len() > PIECE {
             self.flush()?;
         }
-        match self.text.push_str(s) {
-            Ok(()) => Ok(()),
-            Err(_) => Err(fmt::Error),
-        }
+        self.text.push_str(s).map_err(|_| fmt::Error)
     }
 }
 
@@ -52,30 +69,32 @@ pub struct Meter<'a> {
 }
 
 impl<'a> Meter<'a> {
-    pub fn for_reel(rt: &'a HostRuntime, reel: &[u8], progress: bool) -> Meter<'a> {
-        let hundredth = if progress && reel.len() >= 100 {
-            Some(reel.len() / 100)
-        } else {
-            None
-        };
+    /// The meter for this reel, where it is asked for.
+    pub fn for_reel(rt: &'a HostRuntime, reel: &[u8], asked: bool) -> Meter<'a> {
         Meter {
             rt,
-            hundredth,
+            hundredth: asked.then_some(reel.len() / 100),
             shown: 0,
         }
+    }
+
+    /// Ends the line in which it was shown.
+    pub fn finish(&self) -> io::Result<()> {
+        if self.hundredth.is_some() {
+            eprintln!(self.rt; "\r100 %")?;
+        }
+        Ok(())
     }
 }
 
 impl Progress for Meter<'_> {
     fn passed(&mut self, at: usize) {
         if let Some(hundredth) = self.hundredth
-            && hundredth > 0
+            && let Some(part) = at.checked_div(hundredth)
+            && part > self.shown
         {
-            let part = at / hundredth;
-            if part > self.shown {
-                self.shown = part;
-                let _ = eprint!(self.rt; "\r{part:>3} %");
-            }
+            self.shown = part;
+            let _ = eprint!(self.rt; "\r{part:>3} %");
         }
     }
 }

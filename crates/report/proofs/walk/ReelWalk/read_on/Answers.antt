@@ -2,7 +2,7 @@ use Rattle.std.proofs.Common.{◌≡◌, true, sym, ◌∙◌, subst}
 use Rattle.report.specs.declared.walk.Until.{Until}
 use Rattle.report.specs.Walking.{is_the_last}
 use Rattle.report.proofs.Walked.{not_last, last_of_all}
-use Rattle.report.proofs.walk.read_on.Goals as goal
+use Rattle.report.proofs.walk.ReelWalk.read_on.Goals as goal
 
 pub returns-then-is_last : goal.returns-then-is_last
 returns-then-is_last g c =
