@@ -1,4 +1,5 @@
-ghost use Rattle.std.specs.Prelude.{ℕ, ◌≡◌, ◌<◌, IfOk, ◌≢◌};
+ghost use Rattle.std.specs.Prelude.{ℕ, ◌≡◌, ◌<◌, IfOk, ◌≢◌, Option, None};
+ghost use Rattle.flow.specs.declared.token.SuperframeToken.{SuperframeToken};
 ghost use Rattle.receiver.specs.declared.answer.Reading.TheVariants.{Nothing};
 ghost use Rattle.boundary.specs.Untold.{untold_of_receiver};
 
@@ -13,14 +14,21 @@ pub(crate) trait Source {
     /// How many answers it still owes.
     ghost untold: { Self → ℕ };
 
-    /// One reading. It leaves less to be told, where it does not answer nothing.
+    /// The token that it has in hand, if any.
+    ghost held: { Self → Option SuperframeToken };
+
+    /// One reading. It leaves less to be told, where it does not answer nothing, and the token in hand where it is.
     fn reading(&mut self, buffer: &mut [u8]) -> Result<Reading, BufferTooShort>
-        ensures { IfOk result (λ answer. answer ≢ Nothing → untold self.new < untold self.old) };
+        ensures less { IfOk result (λ answer. answer ≢ Nothing → untold self.new < untold self.old) }
+        ensures keeps { held self.new ≡ held self.old };
 }
 
 impl<C: Channel, K: Checksum, S: Service> Source for Receiver<C, K, S> {
     ghost untold = { untold_of_receiver C.slots K.width };
 
+    ghost held = { λ _. None };
+
+    #[inline(always)]
     fn reading(&mut self, buffer: &mut [u8]) -> Result<Reading, BufferTooShort> {
         self.read(buffer)
     }
@@ -35,6 +43,7 @@ pub(crate) fn read_on<R: Source, F: FnMut(Reading, &[u8])>(
 where
     F: Drop,
     requires { F.IsAlwaysCallable tell }
+    ensures { R.held source.new ≡ R.held source.old }
 {
     loop {
         let answer = source.reading(buffer)?;

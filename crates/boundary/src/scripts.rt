@@ -1,4 +1,4 @@
-ghost use Rattle.std.specs.Prelude.{length};
+ghost use Rattle.std.specs.Prelude.{◌≡◌, length};
 ghost use Rattle.std.specs.Iterator.{at_most};
 
 use crate::reading::{Source, read_on};
@@ -78,13 +78,17 @@ struct Play<'o, 'b, 't, C, K, S> {
 }
 
 impl<C: Channel, K: Checksum, S: Service> Play<'_, '_, '_, C, K, S> {
-    fn put_reply(&mut self, reply: Result<(), Refusal>) {
+    fn put_reply(&mut self, reply: Result<(), Refusal>)
+        ensures stray { self.new.other.hand ≡ self.old.other.hand }
+    {
         let numbers = reply.map_or_else(|refusal| refusal.numbers(), |()| [0, 0]);
         self.trace.put(&numbers);
     }
 
     /// One reading with at most so many bytes of the buffer, put down.
-    fn read_once(&mut self, len: usize) {
+    fn read_once(&mut self, len: usize)
+        ensures stray { self.new.other.hand ≡ self.old.other.hand }
+    {
         let end = len.min(self.buffer.len());
         let buffer = &mut self.buffer[..end];
         match self.session.reading(buffer) {
@@ -94,7 +98,9 @@ impl<C: Channel, K: Checksum, S: Service> Play<'_, '_, '_, C, K, S> {
     }
 
     /// Readings through the first that answers nothing, put down.
-    fn read_to_end(&mut self) {
+    fn read_to_end(&mut self)
+        ensures stray { self.new.other.hand ≡ self.old.other.hand }
+    {
         let trace = &mut self.trace;
         let read = read_on(&mut self.session, self.buffer, |answer, buffer| {
             trace.put_answer(answer, buffer);
@@ -105,13 +111,17 @@ impl<C: Channel, K: Checksum, S: Service> Play<'_, '_, '_, C, K, S> {
     }
 
     /// Puts down the room, and whether a slot waits.
-    fn ask(&mut self) {
+    fn ask(&mut self)
+        ensures stray { self.new.other.hand ≡ self.old.other.hand }
+    {
         self.trace.put(&self.session.room().to_le_bytes());
         self.trace.put(&[u8::from(self.session.waits())]);
     }
 
     /// Does one step, and puts down what came of it.
-    fn do_step(&mut self, step: Step<'_>) {
+    fn do_step(&mut self, step: Step<'_>)
+        ensures stray { self.new.other.hand ≡ self.old.other.hand }
+    {
         let reply = match step {
             Step::Opening(frames) => self.session.open(frames),
             Step::Offer(packet) => self.session.offer(packet),
@@ -126,7 +136,9 @@ impl<C: Channel, K: Checksum, S: Service> Play<'_, '_, '_, C, K, S> {
     }
 
     /// Does all steps of a script, and closes what is open at the end.
-    fn run(&mut self, script: &[u8]) {
+    fn run(&mut self, script: &[u8])
+        ensures stray { self.new.other.hand ≡ self.old.other.hand }
+    {
         for step in Steps(script) {
             self.do_step(step);
         }

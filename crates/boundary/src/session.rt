@@ -114,7 +114,9 @@ impl<C: Channel, K: Checksum, S: Service> Session<C, K, S> {
         &mut self,
         other: &mut Session<D, L, T>,
         packet: &[u8],
-    ) -> Result<(), Refusal> {
+    ) -> Result<(), Refusal>
+        ensures { self.new.hand ≡ self.old.hand }
+    {
         offer_with(&mut self.hand, &mut other.flow, packet)
     }
 
@@ -122,7 +124,9 @@ impl<C: Channel, K: Checksum, S: Service> Session<C, K, S> {
     pub(crate) fn close_astray<D: Channel, L: Checksum, T: Service>(
         &mut self,
         other: &mut Session<D, L, T>,
-    ) -> Result<(), Refusal> {
+    ) -> Result<(), Refusal>
+        ensures { self.new.hand ≡ self.old.hand }
+    {
         let token = self.hand.take().ok_or(Refusal::NoToken)?;
         if other.flow.holds(&token) {
             hold(&mut self.hand, token);
@@ -152,6 +156,8 @@ impl<C: Channel, K: Checksum, S: Service> Session<C, K, S> {
 
 impl<C: Channel, K: Checksum, S: Service> Source for Session<C, K, S> {
     ghost untold = { λ s. untold_of_flow C.slots K.width s.flow };
+
+    ghost held = { λ s. s.hand };
 
     fn reading(&mut self, buffer: &mut [u8]) -> Result<Reading, BufferTooShort> {
         self.flow.reading(buffer)

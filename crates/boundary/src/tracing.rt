@@ -1,3 +1,5 @@
+ghost use Rattle.std.specs.Prelude.{◌≤◌};
+
 use crate::numbers::{low_byte, low_half};
 use receiver::answer::Reading;
 
@@ -14,7 +16,9 @@ impl<'a> Trace<'a> {
     }
 
     /// Puts `bytes` down behind the others, where they fit.
-    pub(crate) fn put(&mut self, bytes: &[u8]) {
+    pub(crate) fn put(&mut self, bytes: &[u8])
+        ensures { self.old.len ≤ self.new.len }
+    {
         let end = self.len.saturating_add(bytes.len());
         if let Some(place) = self.buffer.get_mut(self.len..end) {
             place.copy_from_slice(bytes);
@@ -23,7 +27,9 @@ impl<'a> Trace<'a> {
     }
 
     /// Puts down an answer, and the packet that it handed out.
-    pub(crate) fn put_answer(&mut self, answer: Reading, buffer: &[u8]) {
+    pub(crate) fn put_answer(&mut self, answer: Reading, buffer: &[u8])
+        ensures { self.old.len ≤ self.new.len }
+    {
         self.put(&Entry::from(answer).bytes());
         if let Reading::Sound { len }
         | Reading::Damaged { len }

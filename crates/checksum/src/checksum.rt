@@ -52,7 +52,11 @@ pub trait Checksum {
         ensures exactly { Decides result (value message.now ≡ received.now) }
         ensures detects { (s : List ℕ) → ChangedInOneStretch reach (bits (s ++ value s)) (bits (message.now ++ received.now)) → result ≡ false }
     {
-        &self.value_of(message)[..self.value_len()] == received
+        let width = self.value_len();
+        if received.len() != width {
+            return false;
+        }
+        &self.value_of(message)[..width] == received
     }
 
     // What every checksum owes, and code over any checksum may use.

@@ -1,6 +1,5 @@
 //! Where the rows of the picture stand.
 use reel::blocks::Blocks;
-use reel::counting::survey;
 
 /// How the rows are laid out on the page.
 #[derive(Clone, Copy, PartialEq, Eq, Debug)]
@@ -68,13 +67,12 @@ impl Layout {
 
     /// The layout for a reel, up to its first fault.
     pub fn for_reel(reel: &[u8]) -> Layout {
-        let superframes = survey(reel).contents.superframes;
-        let widest = Blocks::of(reel)
+        let (superframes, widest) = Blocks::of(reel)
             .map_while(Result::ok)
-            .map(|block| block.size)
-            .max()
-            .unwrap_or(1);
-        Layout::of(superframes as u64, u64::from(widest))
+            .fold((0u64, 1), |(count, widest), block| {
+                (count.saturating_add(1), block.size.max(widest))
+            });
+        Layout::of(superframes, u64::from(widest))
     }
 
     /// The width of the page; the title and the legend want some width, too.

@@ -51,7 +51,7 @@ impl From<Recorded<'_>> for Cell {
 /// One row of cells, those of a superframe. It ends with absent cells where the superframe has fewer than 200 frames, so that each
 /// number of a torn frame names a cell of every row.
 #[derive(Clone, Copy, PartialEq, Eq, Debug)]
-pub struct Row([Cell; 200]);
+pub struct Row(pub [Cell; 200]);
 
 impl Row {
     /// The row of no superframe.
@@ -188,17 +188,18 @@ impl fmt::Display for MapHead<'_> {
 
 /// What is to be done with the row of each superframe. It is no closure: what is drawn holds a reference, and that it may always be
 /// called cannot be asked of a closure there.
-trait EachRow {
+pub trait EachRow {
     /// The superframe of this row has ended, the one of this number, counted from 1.
     fn row(&mut self, number: u64, row: Row) -> fmt::Result;
 }
 
 /// Gathers the row of each superframe, and hands it on where the superframe ends.
 #[derive(Drop)]
-struct Rows<R> {
-    number: u64,
-    row: Row,
-    each: R,
+pub struct Rows<R> {
+    /// The number of the superframe, counted from 1.
+    pub number: u64,
+    pub row: Row,
+    pub each: R,
 }
 
 impl<R> Rows<R> {
@@ -231,7 +232,7 @@ impl<R: EachRow> Visitor for Rows<R> {
 
 /// How many frames are padding only and not torn.
 #[derive(Clone, Copy)]
-struct PaddingCount(u64);
+pub struct PaddingCount(pub u64);
 
 impl EachRow for PaddingCount {
     fn row(&mut self, _number: u64, row: Row) -> fmt::Result {
@@ -242,12 +243,12 @@ impl EachRow for PaddingCount {
 
 /// The rows of the picture. Cells of one kind side by side are drawn as one.
 #[derive(Drop)]
-struct Drawing<'a, O> {
-    out: &'a mut O,
-    layout: Layout,
+pub struct MapRows<'a, O> {
+    pub out: &'a mut O,
+    pub layout: Layout,
 }
 
-impl<O: fmt::Write> Drawing<'_, O> {
+impl<O: fmt::Write> MapRows<'_, O> {
     /// Draws cells of this row, counted from 0, from one place up to another.
     fn draw(&mut self, row: u64, from: u64, to: u64, cell: Cell) -> fmt::Result {
         let class = cell.class();
@@ -285,7 +286,7 @@ impl<O: fmt::Write> Drawing<'_, O> {
     }
 }
 
-impl<O: fmt::Write> EachRow for Drawing<'_, O> {
+impl<O: fmt::Write> EachRow for MapRows<'_, O> {
     fn row(&mut self, number: u64, row: Row) -> fmt::Result {
         let place = number.saturating_sub(1);
         self.draw_number(place)?;
@@ -351,7 +352,7 @@ pub fn draw<O: fmt::Write, P: Progress>(
         outcome: counted,
         padding: counting.each.0,
     })?;
-    let mut rows = Rows::of(Drawing { out, layout });
+    let mut rows = Rows::of(MapRows { out, layout });
     let outcome = walk(source.reel, source.settings, &mut rows, progress)?;
     let out = rows.each.out;
     if layout.cell >= 10 {

@@ -15,6 +15,8 @@ use service::service::Service;
 impl Reader {
     /// One reading: it asks whether the buffer is at least 2,044 bytes long, and then goes on, slot by slot, until one answer is
     /// due. Only a packet that is sound, damaged or foreign fills the front of the buffer. A refusal changes nothing.
+    // Here and below: a reading of a packet of few bytes would else take half as long again for putting its answer down and taking it up.
+    #[inline(always)]
     pub fn read<C: Channel, K: Checksum, S: Service>(
         &mut self,
         channel: &mut C,
@@ -33,6 +35,7 @@ impl Reader {
     }
 
     /// The same, into a buffer that is long enough.
+    #[inline(always)]
     fn read_on<C: Channel, K: Checksum, S: Service>(
         &mut self,
         channel: &mut C,

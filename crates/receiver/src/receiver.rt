@@ -37,6 +37,7 @@ impl<C: Channel, K: Checksum, S: Service> Receiver<C, K, S> {
 
     /// One reading. It asks whether the buffer is at least 2,044 bytes long, and then goes on, slot by slot, until one answer is
     /// due. Only a packet that is sound, damaged or foreign fills the front of the buffer. A refusal changes nothing.
+    #[inline(always)]
     pub fn read(&mut self, buffer: &mut [u8]) -> Result<Reading, BufferTooShort>
         ensures asks { refusal result ≡ buffer_question (length buffer.old) }
         ensures same { OnErr result ((self.new ≡ self.old) × (buffer.new ≡ buffer.old)) }

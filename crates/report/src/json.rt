@@ -4,7 +4,7 @@ ghost use Rattle.std.specs.Prelude.{◌≡◌, false};
 
 use crate::catalogue::Catalogue;
 use crate::entry::{Entry, Packet, Verdict};
-use crate::source::Source;
+use crate::source::{Heading, Source};
 use crate::summary::Summary;
 use crate::text::ForeignReason;
 use crate::totals::Kinds;
@@ -49,17 +49,16 @@ impl fmt::Display for JsonText<'_> {
 
 /// The beginning of the object.
 #[derive(Clone, Copy, PartialEq, Eq, Debug)]
-pub struct JsonHead<'a>(pub Source<'a>);
+pub struct JsonHead<'a>(pub Heading<'a>);
 
 impl fmt::Display for JsonHead<'_> {
     fn fmt<W: fmt::Write>(&self, f: &mut fmt::Formatter<W>) -> fmt::Result {
-        let Source {
+        let Heading {
             name,
-            reel,
+            size,
             settings,
         } = self.0;
         let name = JsonText(name);
-        let size = reel.len();
         let checksum = settings.checksum.word();
         let service = settings.service.word();
         let fasb = settings.fasb;
@@ -144,11 +143,11 @@ impl fmt::Display for EntryJson {
 /// The superframes as a list, each with the list of its entries. Each list has a flag: a comma stands before all but its first.
 #[derive(Drop)]
 pub struct JsonCatalogue<'a, O> {
-    out: &'a mut O,
+    pub out: &'a mut O,
     /// Whether a superframe stands before.
-    superframe_before: bool,
+    pub superframe_before: bool,
     /// Whether an entry stands before, in the same superframe.
-    entry_before: bool,
+    pub entry_before: bool,
 }
 
 impl<'a, O> JsonCatalogue<'a, O> {
@@ -193,7 +192,7 @@ impl<O: fmt::Write> Visitor for JsonCatalogue<'_, O> {
 
 impl<O: fmt::Write> Catalogue for JsonCatalogue<'_, O> {
     fn head(&mut self, source: Source<'_>) -> fmt::Result {
-        self.out.write(JsonHead(source))
+        self.out.write(JsonHead(Heading::from(source)))
     }
 
     fn end(&mut self, _source: Source<'_>, outcome: Outcome) -> fmt::Result {

@@ -3,7 +3,7 @@ ghost use Rattle.std.specs.Prelude.{◌≡◌};
 
 use crate::catalogue::Catalogue;
 use crate::entry::{Entry, Packet, Verdict};
-use crate::source::Source;
+use crate::source::{Heading, Source};
 use crate::summary::Summary;
 use crate::totals::{Kinds, Totals};
 use crate::visit::{Outcome, Visitor};
@@ -16,16 +16,15 @@ use std::fmt::Write;
 
 /// The first lines of the catalogue.
 #[derive(Clone, Copy, PartialEq, Eq, Debug)]
-pub struct TextHead<'a>(pub Source<'a>);
+pub struct TextHead<'a>(pub Heading<'a>);
 
 impl fmt::Display for TextHead<'_> {
     fn fmt<W: fmt::Write>(&self, f: &mut fmt::Formatter<W>) -> fmt::Result {
-        let Source {
+        let Heading {
             name,
-            reel,
+            size,
             settings,
         } = self.0;
-        let size = reel.len();
         let checksum = settings.checksum.word();
         let service = settings.service.word();
         let fasb = on_off(settings.fasb);
@@ -102,7 +101,7 @@ impl fmt::Display for ForeignReason {
 /// The catalogue of a reel, superframe by superframe.
 #[derive(Drop)]
 pub struct TextCatalogue<'a, O> {
-    out: &'a mut O,
+    pub out: &'a mut O,
 }
 
 impl<'a, O> TextCatalogue<'a, O> {
@@ -131,7 +130,7 @@ impl<O: fmt::Write> Visitor for TextCatalogue<'_, O> {
 
 impl<O: fmt::Write> Catalogue for TextCatalogue<'_, O> {
     fn head(&mut self, source: Source<'_>) -> fmt::Result {
-        self.out.write(TextHead(source))
+        self.out.write(TextHead(Heading::from(source)))
     }
 
     fn end(&mut self, source: Source<'_>, outcome: Outcome) -> fmt::Result {

@@ -21,6 +21,8 @@ pub enum Failure<'a> {
     Unlawful,
     /// There is no memory, or no output, for as much as a message.
     Speechless,
+    /// It was told where it came up.
+    Told,
 }
 
 impl fmt::Display for Failure<'_> {
@@ -39,17 +41,27 @@ impl fmt::Display for Failure<'_> {
             }
             Failure::NotWritten(name, None) => write!(f, "{name} cannot be written"),
             Failure::NoMemory => f.write_str("there is no memory to go on with the script"),
-            Failure::Unlawful | Failure::Speechless => Ok(()),
+            Failure::Unlawful | Failure::Speechless | Failure::Told => Ok(()),
         }
     }
 }
 
-impl Failure<'_> {
+impl<'a> Failure<'a> {
     /// Tells it on standard error, where it is to be told.
     pub fn tell(self, rt: &HostRuntime) {
-        if !matches!(self, Failure::Unlawful | Failure::Speechless) {
+        if !matches!(
+            self,
+            Failure::Unlawful | Failure::Speechless | Failure::Told
+        ) {
             let _ = eprintln!(rt; "rothveam: {self}");
         }
+    }
+
+    /// Tells it at once, and hands on that it was told. So a file that cannot be written is still open when that is told: where a
+    /// program is run without a standard error, that file is in its place, and the message stands in it.
+    pub fn told(self, rt: &HostRuntime) -> Failure<'a> {
+        self.tell(rt);
+        Failure::Told
     }
 }
 

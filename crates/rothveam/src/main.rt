@@ -88,9 +88,7 @@ fn extract_packets<'a>(
     progress: bool,
 ) -> Result<(), Failure<'a>> {
     let mut manifest = Output::to(rt.alloc(), new_manifest(rt, directory)?);
-    manifest
-        .write_str(MANIFEST_HEAD)
-        .map_err(|_| manifest.not_written("the manifest"))?;
+    let begun = manifest.write_str(MANIFEST_HEAD);
     let mut extractor = Extractor {
         rt,
         directory,
@@ -100,8 +98,10 @@ fn extract_packets<'a>(
     };
     let mut meter = Meter::for_reel(rt, source.reel, progress);
     let walked = walk(source.reel, source.settings, &mut extractor, &mut meter);
-    let outcome = walked.map_err(|_| manifest.not_written("the extraction"))?;
-    end_manifest(&mut manifest, outcome).map_err(|_| manifest.not_written("the manifest"))?;
+    let outcome = walked.map_err(|_| manifest.not_written("the extraction").told(rt))?;
+    begun
+        .and_then(|()| end_manifest(&mut manifest, outcome))
+        .map_err(|_| manifest.not_written("the manifest").told(rt))?;
     meter.finish()?;
     println!(rt; "{}", Summary(outcome))?;
     lawful(outcome)
@@ -123,8 +123,10 @@ fn map<'a>(
     let file = fs::create(rt, picture).map_err(|fault| Failure::NotWritten(picture, Some(fault)))?;
     let mut output = Output::to(rt.alloc(), file);
     let mut meter = Meter::for_reel(rt, source.reel, progress);
-    let outcome = draw(source, &mut output, &mut meter).map_err(|_| output.not_written(picture))?;
-    output.finish(picture)?;
+    let outcome = draw(source, &mut output, &mut meter).map_err(|_| output
+        .not_written(picture)
+        .told(rt))?;
+    output.finish(picture).map_err(|failure| failure.told(rt))?;
     meter.finish()?;
     println!(rt; "{}", Summary(outcome))?;
     lawful(outcome)

@@ -8,13 +8,13 @@ use std::fmt;
 
 /// A message with the value that is published for it, high byte first.
 #[derive(Clone, Copy, PartialEq, Eq, Debug)]
-pub struct Vector {
-    pub name: &'static str,
-    pub message: &'static [u8],
+pub struct Vector<'a> {
+    pub name: &'a str,
+    pub message: &'a [u8],
     pub expected: [u8; 2],
 }
 
-impl Vector {
+impl Vector<'_> {
     /// The value that the code computes.
     pub fn value(&self) -> [u8; 2]
         ensures { result ≡ crc16 self.now.message.now }
@@ -32,7 +32,7 @@ impl Vector {
 }
 
 /// One line: the vector, what the code computes, and whether it agrees.
-impl fmt::Display for Vector {
+impl fmt::Display for Vector<'_> {
     fn fmt<W: fmt::Write>(&self, f: &mut fmt::Formatter<W>) -> fmt::Result {
         let name = self.name;
         let length = self.message.len();
@@ -48,7 +48,7 @@ impl fmt::Display for Vector {
 
 /// The published vectors.
 #[tactic(auto, unfolding(checksum::specs::Crc16::step_by, checksum::specs::Crc16::feed_by))]
-pub fn published() -> &'static [Vector; 19]
+pub fn published() -> &'static [Vector<'static>; 19]
     ensures { AllRight result.now }
 {
     &PUBLISHED
@@ -56,7 +56,7 @@ pub fn published() -> &'static [Vector; 19]
 
 // From where such values are printed: catalogues and tutorials of CRCs, the car makers' and the space agencies'
 // standards, and codes for payments by telephone, which end in their own value.
-static PUBLISHED: [Vector; 19] = [
+static PUBLISHED: [Vector<'static>; 19] = [
     Vector {
         name: "catalogues, the digits 1 to 9",
         message: b"123456789",

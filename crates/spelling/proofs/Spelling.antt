@@ -1,10 +1,8 @@
 -- Numbers and bytes as they are spelt.
-use Rattle.std.proofs.Common.{◌≡◌, ℕ, ◌+◌, ◌-◌, ◌*◌, ◌/◌, ◌^◌, ◌<◌, ◌≤◌, zero, suc, min, false, List, [], ◌∷◌, ◌++◌, length, get_or, take, drop, Some, None, Option, ◌⊎◌, inl, inr, Bool, cond, ◌%◌, ne_eqb, sym, refl, ap, ◌∙◌, append_assoc, arith, eq-eqb}
-use Rattle.std.proofs.lemmas.Bool.{cases_eq}
+use Rattle.std.proofs.Common.{◌≡◌, ℕ, ◌+◌, ◌-◌, ◌*◌, ◌/◌, ◌^◌, ◌<◌, ◌≤◌, zero, suc, min, List, [], ◌∷◌, ◌++◌, length, get_or, take, drop, Some, None, Option, ◌%◌, sym, refl, ap, ◌∙◌, append_assoc, arith}
 use Rattle.std.proofs.lemmas.Bool.Decides.{nat_tests}
 use Rattle.std.specs.List.{slice_index}
 use Rattle.std.proofs.lemmas.List.{drop_more, take_more, take_all}
-use Rattle.std.specs.Fmt.{digits, digits_onto, digit_glyph, format_spec, padded_integral, char_count}
 use Rattle.std.specs.Simd.{first_chunks}
 use Rattle.spelling.specs.Decimal.{capped, count_of_digits, spell_on, with_digit}
 use Rattle.spelling.specs.Hex.{behind, byte_of, digit_of, value_of_digit, hex_pair, hexed, in_front, in_word, unhexed, ReadBack}
@@ -104,40 +102,6 @@ hexed_more xs i h = sym (ap hexed (take_more xs i 0 h) ∙ hexed_append (take i 
 pub hexed_all : (xs : List ℕ) (i : ℕ) → (length xs ≡ 0 → ⊥) → length xs ≤ i → hexed (take i xs) ≡ in_word xs
 hexed_all [] i e h = absurd (e refl)
 hexed_all (x ∷ xs) i e h = ap hexed (take_all i (x ∷ xs) h)
-
--- the last digit of a number that has no other, and of one that has
-last_digit : (k n : ℕ) (acc : List ℕ) → n / 16 ≡ 0 → digits_onto (suc k) 16 false n acc ≡ digit_glyph false (n % 16) ∷ acc
-last_digit k n acc h =
-    let this : List ℕ = digit_glyph false (n % 16) ∷ acc in
-    ap (λ (t : Bool). cond t this (digits_onto k 16 false (n / 16) this)) (eq-eqb (n / 16) 0 h)
-
-next_digit : (k n : ℕ) (acc : List ℕ) → (n / 16 ≡ 0 → ⊥)
-    → digits_onto (suc k) 16 false n acc ≡ digits_onto k 16 false (n / 16) (digit_glyph false (n % 16) ∷ acc)
-next_digit k n acc h =
-    let this : List ℕ = digit_glyph false (n % 16) ∷ acc in
-    ap (λ (t : Bool). cond t this (digits_onto k 16 false (n / 16) this)) (ne_eqb (n / 16) 0 h)
-
-padded_one : (x : ℕ) → padded_integral (format_spec 32 0 4 2 18446744073709551615) false [] (x ∷ []) ≡ 48 ∷ x ∷ []
-unfolding padded_integral char_count
-padded_one x = refl
-
-padded_two : (x y : ℕ) → padded_integral (format_spec 32 0 4 2 18446744073709551615) false [] (x ∷ y ∷ []) ≡ x ∷ y ∷ []
-unfolding padded_integral char_count
-padded_two x y = refl
-
--- a byte as the library writes it in two hex digits
-pub hex_shown : (b : ℕ) → b < 256 → padded_integral (format_spec 32 0 4 2 18446744073709551615) false [] (digits 16 false b) ≡ hex_pair b
-unfolding digits
-hex_shown b h = go (cases_eq (b / 16) 0)
-  where
-    pad : List ℕ → List ℕ
-    pad = padded_integral (format_spec 32 0 4 2 18446744073709551615) false []
-
-    go : (b / 16 ≡ 0) ⊎ (b / 16 ≡ 0 → ⊥) → pad (digits_onto 64 16 false b []) ≡ hex_pair b
-    go (inl z) = ap pad (last_digit 63 b [] z) ∙ padded_one (digit_glyph false (b % 16)) ∙ ap (λ (d : ℕ). digit_of d ∷ digit_of b ∷ []) (sym z)
-    go (inr s) =
-        ap pad (next_digit 63 b [] s ∙ last_digit 62 (b / 16) (digit_glyph false (b % 16) ∷ []) (omega arith))
-        ∙ padded_two (digit_glyph false (b / 16 % 16)) (digit_glyph false (b % 16))
 
 -- a number below 16 is read from the digit that is written for it
 digit_back : (n : ℕ) → value_of_digit (digit_of n) ≡ Some (n % 16)

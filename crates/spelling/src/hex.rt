@@ -1,5 +1,5 @@
-ghost use Rattle.std.specs.Prelude.{◌≡◌, ◌<◌, IfSome, IfOk, IfErr, Some};
-ghost use Rattle.spelling.specs.Hex.{byte_of, value_of_digit, in_word, is_a_dash, spelt, unhexed, Misspelt};
+ghost use Rattle.std.specs.Prelude.{◌≡◌, ◌<◌, [], ◌∷◌, IfSome, IfOk, IfErr, Some};
+ghost use Rattle.spelling.specs.Hex.{byte_of, digit_of, value_of_digit, in_word, is_a_dash, spelt, unhexed, Misspelt};
 
 use crate::fault::LineFault;
 use std::alloc::Global;
@@ -70,8 +70,34 @@ impl fmt::Display for Hex<'_> {
             return f.write_str("-");
         }
         for &byte in bytes {
-            write!(f, "{byte:02x}")?;
+            f.write_str(digit(byte / 16))?;
+            f.write_str(digit(byte))?;
         }
         Ok(())
+    }
+}
+
+/// The hex digit of a number, of which what is left after division by 16 counts.
+// `{byte:02x}` writes the same, and lays each number out anew: bytes below 16 took it twice as long and more.
+fn digit(number: u8) -> &'static str
+    ensures { result.now ≡ digit_of number ∷ [] }
+{
+    match number % 16 {
+        0 => "0",
+        1 => "1",
+        2 => "2",
+        3 => "3",
+        4 => "4",
+        5 => "5",
+        6 => "6",
+        7 => "7",
+        8 => "8",
+        9 => "9",
+        10 => "a",
+        11 => "b",
+        12 => "c",
+        13 => "d",
+        14 => "e",
+        _ => "f",
     }
 }

@@ -12,7 +12,7 @@ pub returns-clause-detects : goal.returns-clause-detects
 returns-clause-detects g c =
     let m : List ℕ = c.args.message.now in
     let v : List ℕ = c.args.received.now in
-    let expected : List ℕ = take c.value_len.result c.value_of.result in
-    let front : expected ≡ g.Self.Checksum.value m = ap (λ (n : ℕ). take n c.value_of.result) c.value_len.ensures ∙ c.value_of.ensures.front in
+    let expected : List ℕ = take c.value_len-width.result c.value_of.result in
+    let front : expected ≡ g.Self.Checksum.value m = ap (λ (n : ℕ). take n c.value_of.result) c.value_len-width.ensures ∙ c.value_of.ensures.front in
     let decides : Decides c.eq.result (expected ≡ v) = slice_eq-Decides Decides-eqb expected v c.eq.result c.eq.ensures in
     λ s u. refuted c.eq.result λ e. g.met.Self.Checksum.detects s m v u (sym front ∙ decides.0 e)
