@@ -87,6 +87,7 @@ impl<C: Channel, K: Checksum, S: Service> Play<'_, '_, '_, C, K, S> {
 
     /// One reading with at most so many bytes of the buffer, put down.
     fn read_once(&mut self, len: usize)
+        ensures held { self.new.session.hand ≡ self.old.session.hand }
         ensures stray { self.new.other.hand ≡ self.old.other.hand }
     {
         let end = len.min(self.buffer.len());
@@ -99,6 +100,7 @@ impl<C: Channel, K: Checksum, S: Service> Play<'_, '_, '_, C, K, S> {
 
     /// Readings through the first that answers nothing, put down.
     fn read_to_end(&mut self)
+        ensures held { self.new.session.hand ≡ self.old.session.hand }
         ensures stray { self.new.other.hand ≡ self.old.other.hand }
     {
         let trace = &mut self.trace;
